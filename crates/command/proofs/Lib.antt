@@ -1,0 +1,12 @@
+-- The laws of the command layer, for its own proofs and for the layers above.
+pub mod Examples
+pub mod Judgements
+pub mod Plays
+pub mod Writes
+pub mod ReadBack
+pub mod Lists
+pub mod Holding
+pub mod Judged
+pub mod Refusing
+pub mod Serving
+pub mod Following

@@ -1,0 +1,3 @@
+-- The laws of the settings, for the proofs here and for the layers above.
+pub mod Commands
+pub mod Keeping

@@ -1,0 +1,4 @@
+-- What the contracts of a command's values cite.
+pub mod Fields
+pub mod Values
+pub mod Data

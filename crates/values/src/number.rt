@@ -1,0 +1,41 @@
+// Numbers of several bytes, least significant first.
+ghost use mathlib.Core.Path.{_≡_};
+ghost use Prim.Native.Nat.{_+_, _≤_, _<_};
+ghost use lib.ListN.{length, take, drop};
+ghost use Rattle.packet.specs.Numbers.{valueOf};
+
+fn wide16(b: u8) -> u16
+    ensures { λ r. ⌜ (r ≡ b) × (r < 256) ⌝ }
+{
+    b as u16
+}
+
+fn wide32(b: u8) -> u32
+    ensures { λ r. ⌜ (r ≡ b) × (r < 256) ⌝ }
+{
+    b as u32
+}
+
+// The number in the byte at a place of some data.
+pub(crate) fn byte_at(d: &[u8], at: usize) -> u8
+    requires { ⌜ at + 1 ≤ length (now d) ⌝ }
+    ensures { λ r. ⌜ r ≡ valueOf (take 1 (drop at (now (d .entry)))) ⌝ }
+{
+    d[at]
+}
+
+// In two bytes.
+pub(crate) fn word_at(d: &[u8], at: usize) -> u16
+    requires { ⌜ at + 2 ≤ length (now d) ⌝ }
+    ensures { λ r. ⌜ r ≡ valueOf (take 2 (drop at (now (d .entry)))) ⌝ }
+{
+    wide16(d[at]) + 256 * wide16(d[at + 1])
+}
+
+// In four bytes.
+pub(crate) fn long_at(d: &[u8], at: usize) -> u32
+    requires { ⌜ at + 4 ≤ length (now d) ⌝ }
+    ensures { λ r. ⌜ r ≡ valueOf (take 4 (drop at (now (d .entry)))) ⌝ }
+{
+    wide32(d[at]) + 256 * (wide32(d[at + 1]) + 256 * (wide32(d[at + 2]) + 256 * wide32(d[at + 3])))
+}

@@ -1,0 +1,345 @@
+// A command with its values: what a write carries and a read answers. Its data are read and made
+// side by side.
+use crate::data::Data;
+use crate::number::byte_at;
+use crate::number::long_at;
+use crate::number::word_at;
+use settings::Command;
+use settings::DisplaySetting;
+use settings::Drive;
+use settings::LedCurrent;
+use settings::Microseconds;
+use settings::PatternSequence;
+use settings::Settings;
+use settings::StaticColour;
+use settings::VideoInput;
+use settings::VideoMode;
+ghost use mathlib.Core.Path.{_≡_};
+ghost use lib.ListN.{length};
+ghost use Rattle.values.specs.Data.{Holds};
+ghost use Rattle.values.specs.Fields.{splitAll, joinAll};
+ghost use Rattle.settings.specs.Parts.{currentValues, colourValues, settingValues, inputValues, videoValues, sequenceValues, currentFrom, colourFrom, settingFrom, inputFrom, videoFrom, sequenceFrom};
+ghost use Rattle.settings.specs.Settings.{blocked as blockedIn, store as storeIn, valuesOf};
+ghost use Rattle.settings.specs.Table.{allowed as allowedIn, layout, sizeOf};
+ghost use Rattle.values.specs.Values.{commandIn, valuesIn, valueFrom, dataIn, parsed};
+ghost use Rattle.settings.specs.declared.command.Command.the-variants as command;
+
+pub enum Value {
+    DisplayMode(u8),
+    TestPattern(u8),
+    LedCurrent(LedCurrent),
+    StaticColour(StaticColour),
+    DisplaySetting(DisplaySetting),
+    VideoInput(VideoInput),
+    VideoMode(VideoMode),
+    PatternSequence(PatternSequence),
+    SequenceRun(u8),
+}
+
+// What reading a command's data finds.
+pub enum Parsed {
+    Values(Value),
+    // They have not the command's size.
+    WrongSize,
+}
+
+// The data of each command that has several fields, taken apart and put together.
+
+// 01 04: red, green, blue.
+fn current_in(d: &[u8]) -> LedCurrent
+    requires { ⌜ length (now d) ≡ sizeOf command.LedCurrent ⌝ }
+    ensures { λ r. ⌜ r ≡ currentFrom (splitAll (layout command.LedCurrent) (now (d .entry))) ⌝ }
+{
+    LedCurrent {
+        red: Drive(word_at(d, 0)),
+        green: Drive(word_at(d, 2)),
+        blue: Drive(word_at(d, 4)),
+    }
+}
+
+fn current_data(q: LedCurrent) -> Data
+    ensures { λ r. ⌜ Holds r (joinAll (layout command.LedCurrent) (currentValues q)) ⌝ }
+{
+    Data::EMPTY.word(q.red.0).word(q.green.0).word(q.blue.0)
+}
+
+// 01 06: blue, green, red, 00.
+fn colour_in(d: &[u8]) -> StaticColour
+    requires { ⌜ length (now d) ≡ sizeOf command.StaticColour ⌝ }
+    ensures { λ r. ⌜ r ≡ colourFrom (splitAll (layout command.StaticColour) (now (d .entry))) ⌝ }
+{
+    StaticColour {
+        blue: byte_at(d, 0),
+        green: byte_at(d, 1),
+        red: byte_at(d, 2),
+        last: byte_at(d, 3),
+    }
+}
+
+fn colour_data(q: StaticColour) -> Data
+    ensures { λ r. ⌜ Holds r (joinAll (layout command.StaticColour) (colourValues q)) ⌝ }
+{
+    Data::EMPTY
+        .byte(q.blue)
+        .byte(q.green)
+        .byte(q.red)
+        .byte(q.last)
+}
+
+// 01 07: long flip, short flip, rotate.
+fn setting_in(d: &[u8]) -> DisplaySetting
+    requires { ⌜ length (now d) ≡ sizeOf command.DisplaySetting ⌝ }
+    ensures { λ r. ⌜ r ≡ settingFrom (splitAll (layout command.DisplaySetting) (now (d .entry))) ⌝ }
+{
+    DisplaySetting {
+        long: byte_at(d, 0),
+        short: byte_at(d, 1),
+        rotate: byte_at(d, 2),
+    }
+}
+
+fn setting_data(q: DisplaySetting) -> Data
+    ensures { λ r. ⌜ Holds r (joinAll (layout command.DisplaySetting) (settingValues q)) ⌝ }
+{
+    Data::EMPTY.byte(q.long).byte(q.short).byte(q.rotate)
+}
+
+// 02 00: X, Y, first pixel, first line, width, height.
+fn input_in(d: &[u8]) -> VideoInput
+    requires { ⌜ length (now d) ≡ sizeOf command.VideoInput ⌝ }
+    ensures { λ r. ⌜ r ≡ inputFrom (splitAll (layout command.VideoInput) (now (d .entry))) ⌝ }
+{
+    VideoInput {
+        x: word_at(d, 0),
+        y: word_at(d, 2),
+        pixel: word_at(d, 4),
+        line: word_at(d, 6),
+        width: word_at(d, 8),
+        height: word_at(d, 10),
+    }
+}
+
+fn input_data(q: VideoInput) -> Data
+    ensures { λ r. ⌜ Holds r (joinAll (layout command.VideoInput) (inputValues q)) ⌝ }
+{
+    Data::EMPTY
+        .word(q.x)
+        .word(q.y)
+        .word(q.pixel)
+        .word(q.line)
+        .word(q.width)
+        .word(q.height)
+}
+
+// 02 01: frame rate, depth, LED.
+fn video_in(d: &[u8]) -> VideoMode
+    requires { ⌜ length (now d) ≡ sizeOf command.VideoMode ⌝ }
+    ensures { λ r. ⌜ r ≡ videoFrom (splitAll (layout command.VideoMode) (now (d .entry))) ⌝ }
+{
+    VideoMode {
+        rate: byte_at(d, 0),
+        depth: byte_at(d, 1),
+        led: byte_at(d, 2),
+    }
+}
+
+fn video_data(q: VideoMode) -> Data
+    ensures { λ r. ⌜ Holds r (joinAll (layout command.VideoMode) (videoValues q)) ⌝ }
+{
+    Data::EMPTY.byte(q.rate).byte(q.depth).byte(q.led)
+}
+
+// 04 00: depth, count, inversion, trigger, delay, period, exposure, LED.
+fn sequence_in(d: &[u8]) -> PatternSequence
+    requires { ⌜ length (now d) ≡ sizeOf command.PatternSequence ⌝ }
+    ensures { λ r. ⌜ r ≡ sequenceFrom (splitAll (layout command.PatternSequence) (now (d .entry))) ⌝ }
+{
+    PatternSequence {
+        depth: byte_at(d, 0),
+        count: byte_at(d, 1),
+        inversion: byte_at(d, 2),
+        trigger: byte_at(d, 3),
+        delay: Microseconds(long_at(d, 4)),
+        period: Microseconds(long_at(d, 8)),
+        exposure: Microseconds(long_at(d, 12)),
+        led: byte_at(d, 16),
+    }
+}
+
+fn sequence_data(q: PatternSequence) -> Data
+    ensures { λ r. ⌜ Holds r (joinAll (layout command.PatternSequence) (sequenceValues q)) ⌝ }
+{
+    Data::EMPTY
+        .byte(q.depth)
+        .byte(q.count)
+        .byte(q.inversion)
+        .byte(q.trigger)
+        .long(q.delay.0)
+        .long(q.period.0)
+        .long(q.exposure.0)
+        .byte(q.led)
+}
+
+impl Value {
+    // The values that stand in a command's data, where their size is right.
+    pub fn parse(c: Command, d: &[u8]) -> Parsed
+        ensures { λ r. ⌜ r ≡ parsed c (now (d .entry)) ⌝ }
+    {
+        if d.len() != c.size() {
+            return Parsed::WrongSize;
+        }
+        Parsed::Values(Value::from(c, d))
+    }
+
+    fn from(c: Command, d: &[u8]) -> Value
+        requires { ⌜ length (now d) ≡ sizeOf c ⌝ }
+        ensures { λ r. ⌜ r ≡ valueFrom c (splitAll (layout c) (now (d .entry))) ⌝ }
+    {
+        match c {
+            Command::DisplayMode => Value::DisplayMode(byte_at(d, 0)),
+            Command::TestPattern => Value::TestPattern(byte_at(d, 0)),
+            Command::LedCurrent => Value::LedCurrent(current_in(d)),
+            Command::StaticColour => Value::StaticColour(colour_in(d)),
+            Command::DisplaySetting => Value::DisplaySetting(setting_in(d)),
+            Command::VideoInput => Value::VideoInput(input_in(d)),
+            Command::VideoMode => Value::VideoMode(video_in(d)),
+            Command::PatternSequence => Value::PatternSequence(sequence_in(d)),
+            Command::SequenceRun => Value::SequenceRun(byte_at(d, 0)),
+        }
+    }
+
+    // The data that carry the values.
+    pub fn data(self) -> Data
+        ensures { λ r. ⌜ Holds r (dataIn self) ⌝ }
+    {
+        match self {
+            Value::DisplayMode(m) => Data::EMPTY.byte(m),
+            Value::TestPattern(p) => Data::EMPTY.byte(p),
+            Value::LedCurrent(q) => current_data(q),
+            Value::StaticColour(q) => colour_data(q),
+            Value::DisplaySetting(q) => setting_data(q),
+            Value::VideoInput(q) => input_data(q),
+            Value::VideoMode(q) => video_data(q),
+            Value::PatternSequence(q) => sequence_data(q),
+            Value::SequenceRun(r) => Data::EMPTY.byte(r),
+        }
+    }
+
+    pub fn command(self) -> Command
+        ensures { λ r. ⌜ r ≡ commandIn self ⌝ }
+    {
+        match self {
+            Value::DisplayMode(_) => Command::DisplayMode,
+            Value::TestPattern(_) => Command::TestPattern,
+            Value::LedCurrent(_) => Command::LedCurrent,
+            Value::StaticColour(_) => Command::StaticColour,
+            Value::DisplaySetting(_) => Command::DisplaySetting,
+            Value::VideoInput(_) => Command::VideoInput,
+            Value::VideoMode(_) => Command::VideoMode,
+            Value::PatternSequence(_) => Command::PatternSequence,
+            Value::SequenceRun(_) => Command::SequenceRun,
+        }
+    }
+}
+
+// The values of a command.
+pub fn value_of(s: Settings, c: Command) -> Value
+    ensures { λ r. ⌜ r ≡ valueFrom c (valuesOf c s) ⌝ }
+{
+    match c {
+        Command::DisplayMode => Value::DisplayMode(s.mode),
+        Command::TestPattern => Value::TestPattern(s.pattern),
+        Command::LedCurrent => {
+            let q = s.current;
+            Value::LedCurrent(q)
+        }
+        Command::StaticColour => {
+            let q = s.colour;
+            Value::StaticColour(q)
+        }
+        Command::DisplaySetting => {
+            let q = s.setting;
+            Value::DisplaySetting(q)
+        }
+        Command::VideoInput => {
+            let q = s.input;
+            Value::VideoInput(q)
+        }
+        Command::VideoMode => {
+            let q = s.video;
+            Value::VideoMode(q)
+        }
+        Command::PatternSequence => {
+            let q = s.sequence;
+            Value::PatternSequence(q)
+        }
+        Command::SequenceRun => Value::SequenceRun(s.run),
+    }
+}
+
+// The settings after a write. A mode other than 4 stops the sequence.
+pub fn stored(s: Settings, v: Value) -> Settings
+    ensures { λ r. ⌜ r ≡ storeIn (commandIn v) (valuesIn v) s ⌝ }
+{
+    let mut t = s;
+    match v {
+        Value::DisplayMode(m) => {
+            t.mode = m;
+            if m != 4 {
+                t.run = 0;
+            }
+        }
+        Value::TestPattern(p) => {
+            t.pattern = p;
+        }
+        Value::LedCurrent(q) => {
+            t.current = q;
+        }
+        Value::StaticColour(q) => {
+            t.colour = q;
+        }
+        Value::DisplaySetting(q) => {
+            t.setting = q;
+        }
+        Value::VideoInput(q) => {
+            t.input = q;
+        }
+        Value::VideoMode(q) => {
+            t.video = q;
+        }
+        Value::PatternSequence(q) => {
+            t.sequence = q;
+        }
+        Value::SequenceRun(r) => {
+            t.run = r;
+        }
+    }
+    t
+}
+
+// The values of a write are allowed.
+pub fn allowed(v: Value) -> bool
+    ensures { λ r. ⌜ r ≡ allowedIn (commandIn v) (valuesIn v) ⌝ }
+{
+    match v {
+        Value::DisplayMode(m) => settings::display_mode(m),
+        Value::TestPattern(p) => settings::test_pattern(p),
+        Value::LedCurrent(q) => settings::led_current(q),
+        Value::StaticColour(q) => settings::static_colour(q),
+        Value::DisplaySetting(q) => settings::display_setting(q),
+        Value::VideoInput(q) => settings::video_input(q),
+        Value::VideoMode(q) => settings::video_mode(q),
+        Value::PatternSequence(q) => settings::pattern_sequence(q),
+        Value::SequenceRun(r) => settings::sequence_run(r),
+    }
+}
+
+// Run 1 outside display mode 4.
+pub fn blocked(v: Value, mode: u8) -> bool
+    ensures { λ r. ⌜ r ≡ blockedIn (commandIn v) (valuesIn v) mode ⌝ }
+{
+    match v {
+        Value::SequenceRun(r) => (r == 1) & !(mode == 4),
+        _ => false,
+    }
+}
