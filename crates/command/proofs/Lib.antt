@@ -10,3 +10,4 @@ pub mod Judged
 pub mod Refusing
 pub mod Serving
 pub mod Following
+pub mod Encoded

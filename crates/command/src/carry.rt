@@ -44,7 +44,7 @@ fn codes_data(k: Codes) -> Data
     with_code(d, k.order, 0x0B)
 }
 
-pub fn response_type(j: Judgement) -> u8
+pub(crate) fn response_type(j: Judgement) -> u8
     ensures { λ r. ⌜ r ≡ responseType j ⌝ }
 {
     match j {
@@ -55,7 +55,7 @@ pub fn response_type(j: Judgement) -> u8
     }
 }
 
-pub fn response_data(s: Settings, j: Judgement) -> Data
+pub(crate) fn response_data(s: Settings, j: Judgement) -> Data
     ensures { λ r. ⌜ Holds r (responseData s j) ⌝ }
 {
     match j {
@@ -67,7 +67,7 @@ pub fn response_data(s: Settings, j: Judgement) -> Data
 }
 
 // The packet of these fields and data, at the start of out; the rest of out stays.
-pub fn emit(out: &mut [u8], kind: u8, cmd1: u8, cmd2: u8, d: Data) -> usize
+pub(crate) fn emit(out: &mut [u8], kind: u8, cmd1: u8, cmd2: u8, d: Data) -> usize
     requires { ⌜ (24 ≤ length (now out)) × (d .length ≤ 17) ⌝ }
     ensures { λ r. ⌜ (r ≡ length (packetOf kind cmd1 cmd2 whole (contents d))) × (now (out .exit) ≡ written (packetOf kind cmd1 cmd2 whole (contents d)) (now (out .entry))) ⌝ }
 {
@@ -79,7 +79,7 @@ pub fn emit(out: &mut [u8], kind: u8, cmd1: u8, cmd2: u8, d: Data) -> usize
     }
 }
 
-pub fn settings_after(s: Settings, j: Judgement) -> Settings
+pub(crate) fn settings_after(s: Settings, j: Judgement) -> Settings
     ensures { λ r. ⌜ r ≡ settingsAfterOf s j ⌝ }
 {
     match j {
@@ -89,7 +89,7 @@ pub fn settings_after(s: Settings, j: Judgement) -> Settings
 }
 
 // The transfer afterwards, n bytes being held then.
-pub fn transfer_after(t: TransferState, n: usize, j: Judgement) -> TransferState
+pub(crate) fn transfer_after(t: TransferState, n: usize, j: Judgement) -> TransferState
     ensures { λ r. ⌜ r ≡ transferStateAfter t n j ⌝ }
 {
     match j {

@@ -32,21 +32,21 @@ impl TransferState {
         held: 0,
     };
 
-    pub fn is_open(self) -> bool
+    pub(crate) fn is_open(self) -> bool
         ensures { λ r. ⌜ r ≡ isOpenIn self ⌝ }
     {
         !(self.active == 0)
     }
 
     // How many bytes are held.
-    pub fn held(self) -> usize
+    pub(crate) fn held(self) -> usize
         ensures { λ r. ⌜ r ≡ heldIn self ⌝ }
     {
         if self.active == 0 { 0 } else { self.held }
     }
 
     // At most 1,024 bytes are held, and an open transfer is for a command of the table.
-    pub fn in_rule(self) -> bool
+    pub(crate) fn in_rule(self) -> bool
         ensures { λ r. ⌜ r ≡ transferInRule self ⌝ }
     {
         let known = Command::find(self.cmd1, self.cmd2).known();
@@ -76,7 +76,7 @@ impl Controller {
     }
 
     // What refusal 3 lets pass.
-    pub fn in_rule(self) -> bool
+    pub(crate) fn in_rule(self) -> bool
         ensures { λ r. ⌜ r ≡ inRule self ⌝ }
     {
         let settings = self.settings;

@@ -78,7 +78,7 @@ impl Codes {
     };
 
     // A fault of the first group holds.
-    pub fn any(self) -> bool
+    pub(crate) fn any(self) -> bool
         ensures { λ r. ⌜ r ≡ anyFault self ⌝ }
     {
         self.command | self.length | self.checksum | self.order
@@ -196,7 +196,13 @@ fn judge_data(found: Found, mode: u8, header: [u8; 6], d: &[u8]) -> Judgement
 
 // A complete packet: its header, whether its checksum was right, and the hold, in which its
 // payload stands behind the bytes that are held.
-pub fn judge(mode: u8, t: TransferState, header: [u8; 6], right: bool, hold: &[u8]) -> Judgement
+pub(crate) fn judge(
+    mode: u8,
+    t: TransferState,
+    header: [u8; 6],
+    right: bool,
+    hold: &[u8],
+) -> Judgement
     requires { ⌜ (transferInRule t ≡ true) × (length (now hold) ≡ 1024) ⌝ }
     ensures { λ r. ⌜ r ≡ judgeOf mode (transferIn t (now (hold .entry))) (packetIn (heldIn t) header right (now (hold .entry))) ⌝ }
 {
