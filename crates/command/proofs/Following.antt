@@ -117,13 +117,13 @@ stored-part d xs i n l h =
 
 -- One whole packet, from a packet boundary.
 module _ (c : Controller) (k : Ready c) (p : List ℕ) (i : IsPacket p) where
-  abbrev h : ℕ
+  abbrev pub h : ℕ
   h = heldIn (c .transfer)
 
-  abbrev stored : List ℕ
+  abbrev pub stored : List ℕ
   stored = sets (c .receiver .hold) h (payload p)
 
-  abbrev complete : Received
+  abbrev pub complete : Received
   complete = one (c .receiver) h p
 
   long : length (payload p) ≡ payloadLength p
@@ -161,7 +161,7 @@ module _ (c : Controller) (k : Ready c) (p : List ℕ) (i : IsPacket p) where
       ap₂ (λ (t : Transfer) (q : Arrived). judge (c .settings .mode) t q) transfer-same seen
       ∙ judge-body (c .settings .mode) (transferIn (c .transfer) (c .receiver .hold)) (arrived p) (take (payloadLength p) (drop h stored)) (λ l. stands (omega (arith, held-same)) .0)
 
-  response-same : responseIn c complete ≡ response (c .settings) (arrived p) (judged (stateOf c) p)
+  pub response-same : responseIn c complete ≡ response (c .settings) (arrived p) (judged (stateOf c) p)
   unfolding responseIn response
   response-same =
       ap₂ (λ (q : Arrived) (j : Judgement). response (c .settings) q j) seen judged-same
@@ -179,7 +179,7 @@ module _ (c : Controller) (k : Ready c) (p : List ℕ) (i : IsPacket p) where
   carried-state (Write v) b = refl
   carried-state (Read d) b = ap (λ (t : Transfer). record { settings = c .settings; transfer = t }) transfer-same
 
-  state-same : stateOf (carriedOut c complete (judgedIn c complete)) ≡ next (stateOf c) p
+  pub state-same : stateOf (carriedOut c complete (judgedIn c complete)) ≡ next (stateOf c) p
   unfolding next judged
   state-same =
       ap (λ (j : Judgement). stateOf (carriedOut c complete j)) judged-same
@@ -187,7 +187,7 @@ module _ (c : Controller) (k : Ready c) (p : List ℕ) (i : IsPacket p) where
       (subst (λ (n : ℕ). Bounded (n + payloadLength p) (judged (stateOf c) p)) held-same (bounded (c .settings .mode) (transferIn (c .transfer) (c .receiver .hold)) (arrived p)))
 
 -- an unfinished packet leaves the state
-part-state : (c : Controller) (b : List ℕ) → Ready c → Between (c .receiver)
+pub part-state : (c : Controller) (b : List ℕ) → Ready c → Between (c .receiver)
     → stateOf (record { settings = c .settings; transfer = c .transfer; receiver = with (c .receiver) (heldIn (c .transfer)) b }) ≡ stateOf c
 unfolding with
 part-state c b k q =

@@ -11,3 +11,4 @@ pub mod Refusing
 pub mod Serving
 pub mod Following
 pub mod Encoded
+pub mod Stepping
