@@ -1,0 +1,161 @@
+// The vectors of streams: what a stream of host bytes leads to from a fresh controller.
+//
+// A row has five fields: the host bytes, all responses joined, the standard list of the settings at
+// the end, how many bytes of an unfinished packet have come in, as a number of four bytes, and the
+// open transfer, which is CMD1, CMD2 and the held data, or nothing.
+use crate::compare::starts_as;
+use crate::difference::Difference;
+use crate::difference::Outcome;
+use crate::row::field;
+use crate::row::has_fields;
+use crate::row::number_at;
+use crate::run::ROOM;
+use crate::run::Run;
+use crate::run::byte_by_byte;
+use crate::run::feed;
+use crate::run::in_two;
+use crate::run::start;
+use crate::say::count;
+use crate::say::text;
+use command::Encoded;
+use command::TransferState;
+use packet::Receiver;
+use settings::Settings;
+ghost use Prim.Native.Nat.{_≤_};
+ghost use lib.ListN.{length};
+
+// The last place at which a stream is cut in two. Time bounds it: with every place, the work would
+// grow with the square of a stream's length. Most first packets end before this place, and the run
+// byte by byte has a cut at every place.
+const PLACES: usize = 64;
+
+fn list_is(s: Settings, list: &[u8]) -> bool {
+    let mut out = [0u8; 128];
+    match command::standard_list(s, &mut out) {
+        Encoded::Length(n) => starts_as(&out, n, list),
+        _ => false,
+    }
+}
+
+fn number_is(n: usize, f: &[u8]) -> bool {
+    if f.len() != 4 {
+        return false;
+    }
+    n == number_at(f, 0)
+}
+
+// The receiver's hold has the held data.
+fn transfer_is(t: TransferState, r: Receiver, f: &[u8]) -> bool {
+    let is_open = t.active != 0;
+    if f.len() < 2 {
+        return (f.len() == 0) & !is_open;
+    }
+    if !is_open | (t.cmd1 != f[0]) | (t.cmd2 != f[1]) {
+        return false;
+    }
+    let held = t.held;
+    let hold = r.hold;
+    starts_as(&hold, held, &f[2..])
+}
+
+// What a run over the row's host bytes differs in.
+fn difference(r: Run, out: &[u8], row: &[u8]) -> Difference {
+    if !r.right {
+        return Difference::Call;
+    }
+    let written = r.written;
+    if !starts_as(out, written, field(row, 1)) {
+        return Difference::Responses;
+    }
+    let c = r.controller;
+    let settings = c.settings;
+    if !list_is(settings, field(row, 2)) {
+        return Difference::List;
+    }
+    let receiver = c.receiver;
+    if !number_is(receiver.received, field(row, 3)) {
+        return Difference::Unfinished;
+    }
+    let transfer = c.transfer;
+    if !transfer_is(transfer, receiver, field(row, 4)) {
+        return Difference::Transfer;
+    }
+    Difference::Nothing
+}
+
+// The stream in one piece.
+fn whole(row: &[u8]) -> Difference {
+    let mut out = [0u8; ROOM];
+    let r = feed(start(), field(row, 0), &mut out);
+    difference(r, &out, row)
+}
+
+// The stream in pieces of one byte.
+fn in_bytes(row: &[u8]) -> Difference {
+    let mut out = [0u8; ROOM];
+    let r = byte_by_byte(field(row, 0), &mut out);
+    difference(r, &out, row)
+}
+
+// The stream cut behind its first k bytes.
+fn cut(host: &[u8], k: usize, row: &[u8]) -> Difference
+    requires { ⌜ k ≤ length (now host) ⌝ }
+{
+    let mut out = [0u8; ROOM];
+    let r = in_two(host, k, &mut out);
+    difference(r, &out, row)
+}
+
+// The last place at which a stream of n bytes is cut.
+fn last_place(n: usize) -> usize
+    ensures { λ r. ⌜ (r ≤ n) × (r ≤ 64) ⌝ }
+{
+    if n < PLACES { n } else { PLACES }
+}
+
+// The stream cut at one place after the other. At place 0 and at the stream's end one of the two
+// pieces is empty.
+fn cuts(number: usize, host: &[u8], row: &[u8]) -> Outcome
+    ensures { λ r. ⌜ (r .differ ≤ 1) × (r .cuts ≤ 65) ⌝ }
+{
+    let last = last_place(host.len());
+    let mut k: usize = 0;
+    while k <= last {
+        let d = cut(host, k, row);
+        if !d.is_nothing() {
+            d.tell(b"streams", number);
+            count(b", cut at ", k);
+            text(b"\n");
+            return Outcome { differ: 1, cuts: k };
+        }
+        k += 1;
+    }
+    Outcome { differ: 0, cuts: k }
+}
+
+// The line of a stream that differs before it is cut.
+fn uncut(number: usize, d: Difference, how: &[u8]) -> Outcome
+    ensures { λ r. ⌜ (r .differ ≤ 1) × (r .cuts ≤ 65) ⌝ }
+{
+    d.tell(b"streams", number);
+    text(how);
+    Outcome { differ: 1, cuts: 0 }
+}
+
+// Runs a row whole, byte by byte and cut in two, up to the first run that differs.
+pub fn try_row(number: usize, row: &[u8]) -> Outcome
+    ensures { λ r. ⌜ (r .differ ≤ 1) × (r .cuts ≤ 65) ⌝ }
+{
+    if !has_fields(row, 5) {
+        return uncut(number, Difference::Row, b"\n");
+    }
+    let d = whole(row);
+    if !d.is_nothing() {
+        return uncut(number, d, b", whole\n");
+    }
+    let e = in_bytes(row);
+    if !e.is_nothing() {
+        return uncut(number, e, b", byte by byte\n");
+    }
+    cuts(number, field(row, 0), row)
+}
