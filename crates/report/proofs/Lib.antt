@@ -4,3 +4,5 @@ pub mod Reports
 pub mod Trials
 pub mod Refusals
 pub mod Going
+pub mod Steps
+pub mod Answers

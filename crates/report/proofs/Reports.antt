@@ -190,7 +190,7 @@ length-report ts k ship =
     simp (length-append, length-record, length-bytes) (omega arith)
 
 -- what holds of the value, or of the refusal
-abbrev Ends : {A : Type 0} → (ℕ → ℕ → Type 0) → (A → Type 0) → Out A → Type 0
+abbrev pub Ends : {A : Type 0} → (ℕ → ℕ → Type 0) → (A → Type 0) → Out A → Type 0
 Ends R P (Bad n p) = R n p
 Ends R P (Good a) = P a
 
@@ -210,20 +210,20 @@ needs S Q true n p m g k = k refl
 needs S Q false n p m g k = g refl
 
 -- the piece and what is left are b
-record Cut (kind : ℕ) (b : List ℕ) (p : Piece) : Type 0 where
-  joined : b ≡ recordOf kind (p .body) ++ p .left
-  body-bytes : Bytes (p .body)
-  left-bytes : Bytes (p .left)
+pub record Cut (kind : ℕ) (b : List ℕ) (p : Piece) : Type 0 where
+  pub joined : b ≡ recordOf kind (p .body) ++ p .left
+  pub body-bytes : Bytes (p .body)
+  pub left-bytes : Bytes (p .left)
 
 -- the record that is due is not there
-data Unread (kind at : ℕ) (b : List ℕ) : ℕ → ℕ → Type 0 where
+pub data Unread (kind at : ℕ) (b : List ℕ) : ℕ → ℕ → Type 0 where
   Short : length b < 4 + valueOf (take 2 b) → Unread kind at b 11 at
   Other : (other : ℕ) (body more : List ℕ) → b ≡ recordOf other body ++ more → other < 65536 → (other ≡ kind → ⊥) → Unread kind at b 12 at
 
-bytes-back : (n : ℕ) (b : List ℕ) → Bytes b → n ≤ length b → bytesOf n (valueOf (take n b)) ≡ take n b
+pub bytes-back : (n : ℕ) (b : List ℕ) → Bytes b → n ≤ length b → bytesOf n (valueOf (take n b)) ≡ take n b
 bytes-back n b h l = rw (length-take-le n b l) at (bytes-value (take n b) (bytes-take n b h))
 
-value-small : (n : ℕ) (b : List ℕ) → Bytes b → n ≤ length b → valueOf (take n b) < 256 ^ n
+pub value-small : (n : ℕ) (b : List ℕ) → Bytes b → n ≤ length b → valueOf (take n b) < 256 ^ n
 value-small n b h l = rw (length-take-le n b l) at (value-bound (take n b) (bytes-take n b h))
 
 cut-at : (n m : ℕ) (b : List ℕ) → take m (drop n b) ++ drop (n + m) b ≡ drop n b
@@ -260,7 +260,7 @@ short-false m n e =
     absurd (omega arith))
     (λ f. leb-false (4 + m) n f)
 
-reading-cut : (kind at : ℕ) (b : List ℕ) → Bytes b → Ends (Unread kind at b) (Cut kind b) (reading kind at b)
+pub reading-cut : (kind at : ℕ) (b : List ℕ) → Bytes b → Ends (Unread kind at b) (Cut kind b) (reading kind at b)
 unfolding reading
 reading-cut kind at b h =
     needs (Unread kind at b) (Cut kind b) (leb 4 (length b) && leb (4 + valueOf (take 2 b)) (length b)) 11 at _
@@ -275,7 +275,7 @@ reading-cut kind at b h =
     (eqb-true (valueOf (take 2 (drop 2 b))) kind e) c
 
 -- it is refused where it was due
-unread-fault : {r : List ℕ} {kind at : ℕ} {b : List ℕ} → Due r kind at b → (n p : ℕ) → Unread kind at b n p → Fault r n p
+pub unread-fault : {r : List ℕ} {kind at : ℕ} {b : List ℕ} → Due r kind at b → (n p : ℕ) → Unread kind at b n p → Fault r n p
 unread-fault {r} {kind} {at} {b} d n p (Short h) = F11 kind at b d h
 unread-fault {r} {kind} {at} {b} d n p (Other other body more e o h) = F12 kind at b other body more d e o h
 
@@ -300,7 +300,7 @@ scores-append [] us a b = b
 scores-append (t ∷ ts) us a b = (a .0, scores-append ts us (a .1) b)
 
 -- one trial more
-begins-more : (r : List ℕ) (n : ℕ) (ts : List Trial) (t : Trial) (b left : List ℕ) → Begins r n ts b → t .score < 2 ^ 32
+pub begins-more : (r : List ℕ) (n : ℕ) (ts : List Trial) (t : Trial) (b left : List ℕ) → Begins r n ts b → t .score < 2 ^ 32
     → b ≡ recordOf 2 (bytesOf 4 (t .score) ++ t .bytes) ++ left
     → Begins r n (ts ++ (t ∷ [])) left
 unfolding trialRecords
@@ -317,7 +317,7 @@ begins-more r n ts t b left g s e =
       scores = scores-append ts (t ∷ []) (g .scores) (s, tt);
     }
 
-length-more : (ts : List Trial) (t : Trial) → length (trialRecords (ts ++ (t ∷ []))) ≡ length (trialRecords ts) + 4 + length (bytesOf 4 (t .score) ++ t .bytes)
+pub length-more : (ts : List Trial) (t : Trial) → length (trialRecords (ts ++ (t ∷ []))) ≡ length (trialRecords ts) + 4 + length (bytesOf 4 (t .score) ++ t .bytes)
 unfolding trialRecords
 length-more ts t =
     let one = recordOf 2 (bytesOf 4 (t .score) ++ t .bytes) in
@@ -386,7 +386,7 @@ not-false true e = refl
 not-false false e = sym e
 
 -- the bytes after kind 4, if there are any
-after-four : (r : List ℕ) (ts : List Trial) (k : ℕ) (ship left : List ℕ) → r ≡ reportOf ts k ship ++ left → Scores ts → k < length ts → isNil left ≡ false
+pub after-four : (r : List ℕ) (ts : List Trial) (k : ℕ) (ship left : List ℕ) → r ≡ reportOf ts k ship ++ left → Scores ts → k < length ts → isNil left ≡ false
     → Fault r 20 (length (reportOf ts k ship))
 after-four r ts k ship [] e s w h = let z : _≡_ {A = ℕ} 0 1 = cc in absurd (omega arith)
 after-four r ts k ship (x ∷ left) e s w h = F20 ts k ship x left e s w
@@ -496,7 +496,7 @@ record Passed (r : List ℕ) (p : Report) : Type 0 where
   equal : play factory (p .shipping) .settings ≡ endFrom factory (p .trials) (p .winner)
 
 -- a test that fails where a fact would pass it
-fails : {P : Type 0} (t : Bool) → t ≡ false → (P → t ≡ true) → P → ⊥
+pub fails : {P : Type 0} (t : Bool) → t ≡ false → (P → t ≡ true) → P → ⊥
 fails t e f h = let z : _≡_ {A = ℕ} 0 1 = cc (f h) in omega arith
 
 checking : (r : List ℕ) (p : Report) → Laid r p → Ends (Refusal r) (Passed r) (checkReport factory p)

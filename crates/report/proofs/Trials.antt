@@ -57,13 +57,13 @@ lowest-one ts j k hj hk a b =
     (λ f. absurd (omega (arith, a .earlier k (ltb-true k j f), b .lowest j hj)))
     (λ f. omega (arith, ltb-false j k e, ltb-false k j f)))
 
-score-front : (ts us : List Trial) (i : ℕ) → i < length ts → scoreAt (ts ++ us) i ≡ scoreAt ts i
+pub score-front : (ts us : List Trial) (i : ℕ) → i < length ts → scoreAt (ts ++ us) i ≡ scoreAt ts i
 unfolding scoreAt
 score-front [] us i h = absurd (omega arith)
 score-front (t ∷ ts) us zero h = refl
 score-front (t ∷ ts) us (suc i) h = score-front ts us i (omega arith)
 
-score-last : (ts : List Trial) (t : Trial) → scoreAt (ts ++ (t ∷ [])) (length ts) ≡ t .score
+pub score-last : (ts : List Trial) (t : Trial) → scoreAt (ts ++ (t ∷ [])) (length ts) ≡ t .score
 unfolding scoreAt
 score-last [] t = refl
 score-last (u ∷ ts) t = score-last ts t

@@ -1,6 +1,6 @@
 -- What the contracts of the report checker cite, in the order of document 01.
 pub mod Records
-pub mod Found
 pub mod Report
 pub mod Claim
 pub mod Refusals
+pub mod Found

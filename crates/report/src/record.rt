@@ -3,33 +3,39 @@ ghost use mathlib.Core.Path.{_≡_};
 ghost use Prim.Native.Nat.{_≤_};
 ghost use lib.ListN.{length, drop};
 ghost use Rattle.report.specs.Records.{reading};
-ghost use Rattle.report.specs.Found.{pieceOf};
+ghost use Rattle.report.specs.Found.{pieceOf, endOf};
 
-// What stands where a record is due.
-pub enum Due {
-    // A record of the kind that is due, with a body of so many bytes.
-    Body(usize),
-    // Refusal 11: fewer bytes are left than its header or body needs.
-    Cut,
-    // Refusal 12: another kind.
-    Another,
+// A value that was read, or the refusal that ends the reading.
+pub enum Outcome {
+    Value(usize),
+    // Document 01's number of the refusal, and its place.
+    Refused { number: u8, place: usize },
 }
 
-// The record of this kind that is due at a place.
-pub(crate) fn record_at(r: &[u8], at: usize, kind: usize) -> Due
+// The record of this kind that is due at a place: the length of its body.
+pub(crate) fn record_at(r: &[u8], at: usize, kind: usize) -> Outcome
     requires { ⌜ at ≤ length (now r) ⌝ }
-    ensures { λ d. ⌜ pieceOf (now (r .entry)) at d ≡ reading kind at (drop at (now (r .entry))) ⌝ }
+    ensures { λ d. ⌜ (pieceOf (now (r .entry)) at d ≡ reading kind at (drop at (now (r .entry)))) × (endOf at d ≤ length (now (r .entry))) ⌝ }
 {
     let left = r.len() - at;
     if left < 4 {
-        return Due::Cut;
+        return Outcome::Refused {
+            number: 11,
+            place: at,
+        };
     }
     let n = packet::word(r[at], r[at + 1]);
     if left < 4 + n {
-        return Due::Cut;
+        return Outcome::Refused {
+            number: 11,
+            place: at,
+        };
     }
     if packet::word(r[at + 2], r[at + 3]) != kind {
-        return Due::Another;
+        return Outcome::Refused {
+            number: 12,
+            place: at,
+        };
     }
-    Due::Body(n)
+    Outcome::Value(n)
 }

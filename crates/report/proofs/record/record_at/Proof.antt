@@ -30,7 +30,7 @@ sub-left c = search needs
 returns : tie.Need-returns
 returns c =
     let a = c .before .before .args in
-    sym (short-head (a .kind) (a .at) (drop (a .at) (now (a .r))) (simp length-drop (omega arith)))
+    (sym (short-head (a .kind) (a .at) (drop (a .at) (now (a .r))) (simp length-drop (omega arith))), omega arith)
 
 shared-slice-read-word : tie.Need-shared-slice-read-word
 shared-slice-read-word c = search needs
@@ -53,7 +53,7 @@ returns-2 c =
     let s = w .before .before .before .before .before in
     let a = s .args in
     let n = length-at (now (a .r)) (a .at) (omega arith) (w .word .ensures .0) in
-    sym (short-body (a .kind) (a .at) (drop (a .at) (now (a .r))) (omega (arith, length-drop (a .at) (now (a .r)))))
+    (sym (short-body (a .kind) (a .at) (drop (a .at) (now (a .r))) (omega (arith, length-drop (a .at) (now (a .r))))), omega arith)
 
 add-word-2 : tie.Need-add-word-2
 add-word-2 c = search needs
@@ -77,9 +77,11 @@ returns-3 c =
     let s = w .before .before .before .before .before in
     let a = s .args in
     let n = length-at (now (a .r)) (a .at) (omega arith) (w .word .ensures .0) in
-    let k = kind-at (now (a .r)) (a .at) (omega arith) (v .word2 .ensures .0) in
-    sym
-    (other-kind (a .kind) (a .at) (drop (a .at) (now (a .r))) (omega (arith, length-drop (a .at) (now (a .r)))) (λ e. c .if3 .taken (k ∙ e)))
+    let k = kind-at (now (a .r)) (a .at) (omega arith) (v .word2 .ensures .0) in (
+      sym
+          (other-kind (a .kind) (a .at) (drop (a .at) (now (a .r))) (omega (arith, length-drop (a .at) (now (a .r)))) (λ e. c .if3 .taken (k ∙ e))),
+      omega arith,
+    )
 
 returns-4 : tie.Need-returns-4
 returns-4 c =
@@ -89,7 +91,7 @@ returns-4 c =
     let a = s .args in
     let n = length-at (now (a .r)) (a .at) (omega arith) (w .word .ensures .0) in
     let k = kind-at (now (a .r)) (a .at) (omega arith) (v .word2 .ensures .0) in
-    rw n (sym (whole-record (a .kind) (a .at) (drop (a .at) (now (a .r))) (omega (arith, length-drop (a .at) (now (a .r)))) (sym k ∙ c .if3 .left)))
+    (rw n (sym (whole-record (a .kind) (a .at) (drop (a .at) (now (a .r))) (omega (arith, length-drop (a .at) (now (a .r)))) (sym k ∙ c .if3 .left))), omega arith)
 
 pub record-at-spec : {M : Type 1} → statement M
 record-at-spec =

@@ -1,0 +1,79 @@
+// The yes or the no.
+use crate::layout::count_of;
+use crate::layout::winner_of;
+use crate::player::play;
+use crate::record::Outcome;
+use crate::same::same_settings;
+use crate::trial::best_of;
+use settings::Settings;
+ghost use mathlib.Core.Path.{_≡_};
+ghost use Rattle.settings.specs.Settings.{factory};
+ghost use Rattle.report.specs.Report.{verdict};
+ghost use Rattle.report.specs.Claim.{Demand3};
+ghost use Rattle.report.specs.Found.{verdictIn, scoreIn, settingsIn};
+
+// The answer to a report.
+pub struct Checked {
+    // The trial that the report names, or the refusal.
+    pub trial: Outcome,
+    // Its score; 0 with a refusal.
+    pub score: usize,
+    // The settings that it ended with; the factory values with a refusal.
+    pub settings: Settings,
+}
+
+fn refused(why: Outcome) -> Checked
+    ensures { λ c. ⌜ (c .trial ≡ why) × (c .score ≡ 0) × (c .settings ≡ factory) ⌝ }
+{
+    Checked {
+        trial: why,
+        score: 0,
+        settings: Settings::FACTORY,
+    }
+}
+
+// Whether the settings that the report ships are those of its best trial.
+pub fn check(r: &[u8]) -> Checked
+    ensures { λ c. ⌜ Demand3 (now (r .entry)) (verdictIn (c .trial) (c .score) (c .settings))
+        × (c .score ≡ scoreIn (verdict (now (r .entry))))
+        × (c .settings ≡ settingsIn (verdict (now (r .entry)))) ⌝ }
+{
+    let head = count_of(r);
+    let Outcome::Value(count) = head else {
+        return refused(head);
+    };
+    let best = best_of(r, count);
+    let next = best.next;
+    let Outcome::Value(place) = next else {
+        return refused(next);
+    };
+    let named = winner_of(r, place, count);
+    let Outcome::Value(winner) = named else {
+        return refused(named);
+    };
+    if winner != best.trial {
+        return refused(Outcome::Refused {
+            number: 17,
+            place: place,
+        });
+    }
+    let shipped = play(Settings::FACTORY, &r[place + 10..]);
+    if !shipped.clean {
+        return refused(Outcome::Refused {
+            number: 18,
+            place: place + 6,
+        });
+    }
+    let settings = best.settings;
+    if !same_settings(shipped.settings, settings) {
+        return refused(Outcome::Refused {
+            number: 19,
+            place: place + 6,
+        });
+    }
+    Checked {
+        trial: named,
+        score: best.score,
+        settings: settings,
+    }
+}
