@@ -70,8 +70,8 @@ pub(crate) fn best_of(r: &[u8], count: usize) -> Best
     ensures { λ t. ⌜ TrialsRead (now (r .entry)) count (t .next) (t .trial) (t .score) (t .settings) ⌝ }
 {
     let mut at: usize = 8;
-    let mut last = Settings::FACTORY;
-    let mut best = Settings::FACTORY;
+    let mut last = Settings::factory();
+    let mut best = last;
     let mut trial: usize = 0;
     let mut score: usize = 0;
     let mut i: usize = 0;

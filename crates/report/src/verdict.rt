@@ -28,7 +28,7 @@ fn refused(why: Outcome) -> Checked
     Checked {
         trial: why,
         score: 0,
-        settings: Settings::FACTORY,
+        settings: Settings::factory(),
     }
 }
 

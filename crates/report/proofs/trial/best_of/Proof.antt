@@ -31,25 +31,30 @@ abbrev μ-loop : tie.MeasureT-loop
 -- one trial more
 again : (c : tie.Joined1 Inv-loop μ-loop)
     → let l = c .before .before .before .before .before .before .before .before in
-    let a = l .before .before .args in
+    let a = l .before .before .before .args in
     Walked (now (a .r)) (a .count) (l .loop .i + 1) (c .before .before .before .before .next .given .0 .0) (c .before .before .before .before .before .before .trial-at .result .settings) (c .if1 .trial) (c .if1 .score) (c .if1 .best)
 again c =
     let n = c .before .before .before .before in
     let t = n .before .before in
     let l = t .before .before in
-    let a = l .before .before .args in
+    let a = l .before .before .before .args in
     let is = subst (λ (o : Outcome). TrialRead (now (a .r)) (l .loop .at) (l .loop .last) o (t .trial-at .result .score) (t .trial-at .result .settings)) (n .next .given .1) (t .trial-at .ensures) in
     elim (c .if1 .came) [
       | inl w ↦ walked-by (w .2) (w .3) (w .1) (walked-better (l .loop .inv .1) is (w .0 .taken))
       | inr w ↦ walked-by (w .2) (w .3) (w .1) (walked-other (l .loop .inv .1) is (w .0 .left))
     ]
 
+factory-requires : tie.Need-factory-requires Inv-loop μ-loop
+factory-requires c κs = search needs
+
 loop-holds : tie.Need-loop-holds Inv-loop μ-loop
-unfolding factory
-loop-holds c = (omega arith, walked-start (now (c .before .args .r)) (c .before .args .count) (c .before .pre .2))
+loop-holds c =
+    let a = c .before .before in
+    let r = now (a .args .r) in
+    (omega arith, subst (λ (s : Settings). Walked r (a .args .count) 0 8 s 0 0 s) (sym (c .factory .ensures)) (walked-start r (a .args .count) (a .pre .2)))
 
 trial-at-requires : tie.Need-trial-at-requires Inv-loop μ-loop
-trial-at-requires c κs = (c .before .before .before .pre .0, c .before .loop .inv .1 .within, c .before .loop .inv .1 .rule)
+trial-at-requires c κs = (c .before .before .before .before .pre .0, c .before .loop .inv .1 .within, c .before .loop .inv .1 .rule)
 
 enum-known-next : tie.Need-enum-known-next Inv-loop μ-loop
 enum-known-next c = search needs
@@ -61,7 +66,7 @@ returns : tie.Need-returns Inv-loop μ-loop
 returns c =
     let t = c .before .before in
     let l = t .before .before in
-    let a = l .before .before .args in
+    let a = l .before .before .before .args in
     let w = l .loop .inv .1 in
     let none = subst (λ (o : Outcome). TrialRead (now (a .r)) (l .loop .at) (l .loop .last) o (t .trial-at .result .score) (t .trial-at .result .settings)) (c .enum-told .given .1) (t .trial-at .ensures) in
     no-trials (a .count) _ _ _ (c .enum-told .given .1) (none (a .count) (w .list) (w .begins) (omega (arith, w .count, t .before .loop-test .taken)) (w .place))
@@ -69,7 +74,7 @@ returns c =
 add-i : tie.Need-add-i Inv-loop μ-loop
 add-i c =
     let l = c .before .before .before .before .before .before .before .before in
-    omega (arith, c .before .before .before .before .before .before .before .loop-test .taken, l .before .before .fits .count)
+    omega (arith, c .before .before .before .before .before .before .before .loop-test .taken, l .before .before .before .fits .count)
 
 loop-less : tie.Need-loop-less Inv-loop μ-loop
 loop-less c = omega (arith, c .before .before .before .before .before .before .before .loop-test .taken)
@@ -78,7 +83,7 @@ loop-again : tie.Need-loop-again Inv-loop μ-loop
 loop-again c = (omega (arith, c .before .before .before .before .before .before .before .loop-test .taken), again c)
 
 returns-2 : tie.Need-returns-2 Inv-loop μ-loop
-returns-2 c = walked-end (c .before .loop .inv .1) (omega (arith, c .before .loop .inv .0, c .loop-test .left)) (c .before .before .before .pre .1)
+returns-2 c = walked-end (c .before .loop .inv .1) (omega (arith, c .before .loop .inv .0, c .loop-test .left)) (c .before .before .before .before .pre .1)
 
 pub best-of-spec : {M : Type 1} → statement M
 best-of-spec =
@@ -86,6 +91,7 @@ best-of-spec =
     (tie.spec
     Inv-loop
     μ-loop
+    factory-requires
     loop-holds
     trial-at-requires
     enum-known-next
