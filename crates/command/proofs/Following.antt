@@ -13,7 +13,7 @@ use lib.Seq.{sets, sets-eq, length-sets, take-set-le, getD-take, take-at, drop-a
 use Rattle.packet.specs.Packet.{typeOf, cmd1Of, cmd2Of, flagsOf, payloadLength, payload, rightSum}
 use Rattle.packet.specs.Stream.{size, hasPacket, packets, rest}
 use Rattle.packet.specs.Receiving.{with, waiting as receiverWaiting, receiving}
-use Rattle.packet.specs.Writing.{written}
+use Rattle.writer.specs.Writing.{written}
 use Rattle.packet.specs.Calls.{Call, Served, andThen, callsOn, servedOne, served, joined}
 use Rattle.packet.specs.declared.receiver.Receiver.{Receiver}
 use Rattle.packet.specs.declared.receiver.Received.{Received}

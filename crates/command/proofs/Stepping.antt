@@ -9,7 +9,7 @@ use lib.ListN.{length, getD, drop, take}
 use Rattle.packet.specs.Packet.{writeResponse, packetOf, sealed}
 use Rattle.packet.specs.Stream.{hasPacket}
 use Rattle.packet.specs.Receiving.{with, waiting as receiverWaiting}
-use Rattle.packet.specs.Writing.{written}
+use Rattle.writer.specs.Writing.{written}
 use Rattle.packet.specs.declared.receiver.Received.{Received}
 use Rattle.packet.proofs.Framing.{IsPacket}
 use Rattle.packet.proofs.Receiving.{Between, between-packet, one, first-of, too-few}

@@ -8,7 +8,7 @@ use values::allowed;
 ghost use mathlib.Core.Path.{_≡_};
 ghost use Prim.Native.Nat.{_≤_};
 ghost use lib.ListN.{length};
-ghost use Rattle.packet.specs.Writing.{written};
+ghost use Rattle.writer.specs.Writing.{written};
 ghost use Rattle.command.specs.Encoding.{outcomeOf, encodeCall, listCall, encoded, standardList};
 
 // What the two calls answer.

@@ -4,9 +4,9 @@ use mathlib.Core.Bool.{Bool, cond, _&&_}
 use mathlib.Core.List.{List, _++_}
 use lib.Dec.{leb}
 use lib.ListN.{length, drop}
 use Rattle.packet.specs.Packet.{packetOf}
-use Rattle.packet.specs.declared.write.Written.{Written}
-use Rattle.packet.specs.declared.write.Written.the-variants.{Length, NoRoom}
+use Rattle.writer.specs.declared.write.Written.{Written}
+use Rattle.writer.specs.declared.write.Written.the-variants.{Length, NoRoom}
 
 -- the data go into a packet, whose length field has two bytes, and the packet into a buffer of so many bytes
 unfoldable pub fits : ℕ → List ℕ → Bool

@@ -5,14 +5,14 @@ use Prim.Native.Nat.{ℕ, _≤_, _<_, _-_, _+_, _%_}
 use native.Mathlib.Omega.{arith}
 use lib.ListN.{length, drop, take}
 use lib.Seq.{length-take-le, getD-take}
 use Rattle.packet.specs.Packet.{sum as sumOf, checksum}
 use native.Mathlib.Nat.{zero-add}
 use Rattle.packet.proofs.Lists.{sum-more, sum-end}
 use borrow.Author.Needs.{needs}
-use Rattle.packet.proofs.write.seal.Statement.{statement}
-use Rattle.packet.proofs.write.seal.Tie as tie
-use Rattle.packet.proofs.write.seal.Reads as reads
-use Rattle.packet.proofs.write.seal.Lts as lts
+use Rattle.writer.proofs.write.seal.Statement.{statement}
+use Rattle.writer.proofs.write.seal.Tie as tie
+use Rattle.writer.proofs.write.seal.Reads as reads
+use Rattle.writer.proofs.write.seal.Lts as lts
 use Rattle.std.proofs.num.wrapping_add_u8.Reads as wrapping-add-u8-reads
 
 abbrev Inv-loop : tie.InvT-loop

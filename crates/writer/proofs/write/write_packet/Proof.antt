@@ -5,17 +5,17 @@ use Prim.Native.Nat.{_+_, suc}
 use native.Mathlib.Omega.{arith}
 use denote.Ref.{now}
 use lib.ListN.{length}
 use Rattle.packet.specs.Numbers.{bytesOf}
 use Rattle.packet.specs.Packet.{header, packetOf}
-use Rattle.packet.proofs.Writing.{too-long, no-room, has-room, sealed-front}
+use Rattle.writer.proofs.Writing.{too-long, no-room, has-room, sealed-front}
 use borrow.Author.Needs.{needs}
-use Rattle.packet.proofs.write.write_packet.Statement.{statement}
-use Rattle.packet.proofs.write.write_packet.Tie as tie
-use Rattle.packet.proofs.write.write_packet.Reads as reads
-use Rattle.packet.proofs.write.write_packet.Lts as lts
-use Rattle.packet.proofs.write.put_header.Reads as put-header-reads
-use Rattle.packet.proofs.write.put_payload.Reads as put-payload-reads
-use Rattle.packet.proofs.write.seal.Reads as seal-reads
+use Rattle.writer.proofs.write.write_packet.Statement.{statement}
+use Rattle.writer.proofs.write.write_packet.Tie as tie
+use Rattle.writer.proofs.write.write_packet.Reads as reads
+use Rattle.writer.proofs.write.write_packet.Lts as lts
+use Rattle.writer.proofs.write.put_header.Reads as put-header-reads
+use Rattle.writer.proofs.write.put_payload.Reads as put-payload-reads
+use Rattle.writer.proofs.write.seal.Reads as seal-reads
 
 returns : tie.Need-returns
 returns c =

@@ -3,8 +3,8 @@ ghost use mathlib.Core.Path.{_≡_};
 ghost use Prim.Native.Nat.{_+_, _≤_, _<_};
 ghost use lib.ListN.{length, take, set};
 ghost use lib.Seq.{sets};
 ghost use Rattle.packet.specs.Packet.{header, checksum};
-ghost use Rattle.packet.specs.Writing.{answerTo, outputAfter};
+ghost use Rattle.writer.specs.Writing.{answerTo, outputAfter};
 
 // What the call answers: how many bytes were written, or that the packet does not go into the
 // buffer or the data into a packet.

@@ -10,13 +10,13 @@ use borrow.Author.Tests.{le-leb, lt-leb, eq-eqb, eqb-true}
 use lib.ListN.{length, getD, take, drop, set, length-append, length-drop, drop-of-length-le, List·getD-append}
 use borrow.Rule.Slice.PartMut.{putMid}
 use lib.Seq.{drop-drop, drop-at, sets, take-at, getD-at, take-all, take-suc, length-take-le}
 use Rattle.packet.specs.Numbers.{Bytes, bytesOf}
 use Rattle.packet.specs.Packet.{typeOf, cmd1Of, cmd2Of, flagsOf, payloadLength, payload, checksum, rightSum, header, sealed, packetOf}
 use Rattle.packet.specs.Stream.{size}
-use Rattle.packet.specs.Writing.{fits, written}
+use Rattle.writer.specs.Writing.{fits, written}
 use Rattle.packet.proofs.Cases.{and-both}
 use Rattle.packet.proofs.Lists.{sets-append, sets-front}
 use Rattle.packet.proofs.Framing.{IsPacket}
 
 -- when a packet fits
 module _ (room : ℕ) (d : List ℕ) where

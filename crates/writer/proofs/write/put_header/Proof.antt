@@ -2,12 +2,12 @@
 use mathlib.Core.Path.{refl}
 use native.Mathlib.Omega.{arith}
 use lib.ListN.{length-set}
 use Rattle.packet.specs.Numbers.{bytesOf}
 use borrow.Author.Needs.{needs}
-use Rattle.packet.proofs.write.put_header.Statement.{statement}
-use Rattle.packet.proofs.write.put_header.Tie as tie
-use Rattle.packet.proofs.write.put_header.Reads as reads
-use Rattle.packet.proofs.write.put_header.Lts as lts
+use Rattle.writer.proofs.write.put_header.Statement.{statement}
+use Rattle.writer.proofs.write.put_header.Tie as tie
+use Rattle.writer.proofs.write.put_header.Reads as reads
+use Rattle.writer.proofs.write.put_header.Lts as lts
 
 slice-write-out : tie.Need-slice-write-out
 slice-write-out c = search needs

@@ -4,12 +4,12 @@ use Prim.Native.Nat.{_≤_, _-_, _+_}
 use native.Mathlib.Omega.{arith}
 use lib.ListN.{length, drop, length-set, drop-of-length-le}
 use lib.Seq.{sets}
 use Rattle.packet.proofs.Lists.{sets-more}
 use borrow.Author.Needs.{needs}
-use Rattle.packet.proofs.write.put_payload.Statement.{statement}
-use Rattle.packet.proofs.write.put_payload.Tie as tie
-use Rattle.packet.proofs.write.put_payload.Reads as reads
-use Rattle.packet.proofs.write.put_payload.Lts as lts
+use Rattle.writer.proofs.write.put_payload.Statement.{statement}
+use Rattle.writer.proofs.write.put_payload.Tie as tie
+use Rattle.writer.proofs.write.put_payload.Reads as reads
+use Rattle.writer.proofs.write.put_payload.Lts as lts
 
 abbrev Inv-loop : tie.InvT-loop
 Inv-loop out₀ payload i₀ out i = (i ≤ length payload) × (length out ≡ length out₀) × (sets out₀ 6 payload ≡ sets out (6 + i) (drop i payload))
