@@ -1,8 +1,8 @@
 // The encoder of write packets and the standard shipping list.
 use crate::carry::emit;
+use rules::settings_in_rule;
 use settings::Command;
 use settings::Settings;
-use settings::settings_in_rule;
 use values::Value;
 use values::allowed;
 ghost use mathlib.Core.Path.{_≡_};

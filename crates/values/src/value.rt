@@ -322,15 +322,15 @@ pub fn allowed(v: Value) -> bool
     ensures { λ r. ⌜ r ≡ allowedIn (commandIn v) (valuesIn v) ⌝ }
 {
     match v {
-        Value::DisplayMode(m) => settings::display_mode(m),
-        Value::TestPattern(p) => settings::test_pattern(p),
-        Value::LedCurrent(q) => settings::led_current(q),
-        Value::StaticColour(q) => settings::static_colour(q),
-        Value::DisplaySetting(q) => settings::display_setting(q),
-        Value::VideoInput(q) => settings::video_input(q),
-        Value::VideoMode(q) => settings::video_mode(q),
-        Value::PatternSequence(q) => settings::pattern_sequence(q),
-        Value::SequenceRun(r) => settings::sequence_run(r),
+        Value::DisplayMode(m) => rules::display_mode(m),
+        Value::TestPattern(p) => rules::test_pattern(p),
+        Value::LedCurrent(q) => rules::led_current(q),
+        Value::StaticColour(q) => rules::static_colour(q),
+        Value::DisplaySetting(q) => rules::display_setting(q),
+        Value::VideoInput(q) => rules::video_input(q),
+        Value::VideoMode(q) => rules::video_mode(q),
+        Value::PatternSequence(q) => rules::pattern_sequence(q),
+        Value::SequenceRun(r) => rules::sequence_run(r),
     }
 }
 

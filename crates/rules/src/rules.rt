@@ -1,17 +1,17 @@
 // The allowed values, a function for each line of the table.
-use crate::settings::DisplaySetting;
-use crate::settings::LedCurrent;
-use crate::settings::PatternSequence;
-use crate::settings::Settings;
-use crate::settings::StaticColour;
-use crate::settings::VideoInput;
-use crate::settings::VideoMode;
+use settings::DisplaySetting;
+use settings::LedCurrent;
+use settings::PatternSequence;
+use settings::Settings;
+use settings::StaticColour;
+use settings::VideoInput;
+use settings::VideoMode;
 ghost use mathlib.Core.Path.{_≡_};
 ghost use mathlib.Core.List.{[], _∷_};
 ghost use Rattle.settings.specs.Parts.{currentValues, colourValues, settingValues, inputValues, videoValues, sequenceValues};
 ghost use Rattle.settings.specs.Settings.{settingsInRule};
 ghost use Rattle.settings.specs.Table.{allowed as allowedIn};
 ghost use Rattle.settings.specs.declared.command.Command.the-variants as command;
 
 pub fn display_mode(m: u8) -> bool
     ensures { λ r. ⌜ r ≡ allowedIn command.DisplayMode (m ∷ []) ⌝ }
