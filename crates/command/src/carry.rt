@@ -62,7 +62,7 @@ pub(crate) fn response_data(s: Settings, j: Judgement) -> Data
         Judgement::Refuse(k) => codes_data(k),
         Judgement::Hold(_) => Data::EMPTY,
         Judgement::Write(_) => Data::EMPTY,
-        Judgement::Read(c) => values::value_of(s, c).data(),
+        Judgement::Read(c) => effects::value_of(s, c).data(),
     }
 }
 
@@ -83,7 +83,7 @@ pub(crate) fn settings_after(s: Settings, j: Judgement) -> Settings
     ensures { λ r. ⌜ r ≡ settingsAfterOf s j ⌝ }
 {
     match j {
-        Judgement::Write(v) => values::stored(s, v),
+        Judgement::Write(v) => effects::stored(s, v),
         _ => s,
     }
 }

@@ -19,12 +19,12 @@ use Rattle.values.specs.declared.value.Value.the-variants.{
   PatternSequence,
   SequenceRun,
 }
 use Rattle.values.proofs.value.Value.{the-type}
 use borrow.Author.Needs.{needs}
-use Rattle.values.proofs.value.blocked.Statement.{statement}
-use Rattle.values.proofs.value.blocked.Tie as tie
-use Rattle.values.proofs.value.blocked.Reads as reads
-use Rattle.values.proofs.value.blocked.Lts as lts
+use Rattle.effects.proofs.effects.blocked.Statement.{statement}
+use Rattle.effects.proofs.effects.blocked.Tie as tie
+use Rattle.effects.proofs.effects.blocked.Reads as reads
+use Rattle.effects.proofs.effects.blocked.Lts as lts
 
 abbrev rest : List ℕ
 rest = 0 ∷ 1 ∷ 2 ∷ 3 ∷ 4 ∷ 5 ∷ 6 ∷ 7 ∷ []

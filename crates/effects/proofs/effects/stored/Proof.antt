@@ -2,10 +2,10 @@
 use borrow.Author.Tests.{eq-eqb, ne-eqb}
 use Rattle.settings.specs.Settings.{store, valuesAfter}
 use borrow.Author.Needs.{needs}
-use Rattle.values.proofs.value.stored.Statement.{statement}
-use Rattle.values.proofs.value.stored.Tie as tie
-use Rattle.values.proofs.value.stored.Reads as reads
-use Rattle.values.proofs.value.stored.Lts as lts
+use Rattle.effects.proofs.effects.stored.Statement.{statement}
+use Rattle.effects.proofs.effects.stored.Tie as tie
+use Rattle.effects.proofs.effects.stored.Reads as reads
+use Rattle.effects.proofs.effects.stored.Lts as lts
 
 enum-known-v : tie.Need-enum-known-v
 enum-known-v c = search needs

@@ -1,9 +1,9 @@
 -- `value_of` meets its contract: in each arm the command is known.
 use borrow.Author.Needs.{needs}
-use Rattle.values.proofs.value.value_of.Statement.{statement}
-use Rattle.values.proofs.value.value_of.Tie as tie
-use Rattle.values.proofs.value.value_of.Reads as reads
-use Rattle.values.proofs.value.value_of.Lts as lts
+use Rattle.effects.proofs.effects.value_of.Statement.{statement}
+use Rattle.effects.proofs.effects.value_of.Tie as tie
+use Rattle.effects.proofs.effects.value_of.Reads as reads
+use Rattle.effects.proofs.effects.value_of.Lts as lts
 
 enum-told : tie.Need-enum-told
 enum-told c = search needs

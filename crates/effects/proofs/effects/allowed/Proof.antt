@@ -1,9 +1,9 @@
 -- `allowed` meets its contract, a line of the table in each arm.
 use borrow.Author.Needs.{needs}
-use Rattle.values.proofs.value.allowed.Statement.{statement}
-use Rattle.values.proofs.value.allowed.Tie as tie
-use Rattle.values.proofs.value.allowed.Reads as reads
-use Rattle.values.proofs.value.allowed.Lts as lts
+use Rattle.effects.proofs.effects.allowed.Statement.{statement}
+use Rattle.effects.proofs.effects.allowed.Tie as tie
+use Rattle.effects.proofs.effects.allowed.Reads as reads
+use Rattle.effects.proofs.effects.allowed.Lts as lts
 
 enum-known-v : tie.Need-enum-known-v
 enum-known-v c = search needs
