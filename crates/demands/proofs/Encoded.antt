@@ -15,15 +15,15 @@ use Rattle.settings.specs.declared.settings.Settings.{Settings}
 use Rattle.settings.proofs.Commands.{Fit}
 use Rattle.values.specs.Values.{commandIn, valuesIn, dataIn}
 use Rattle.values.specs.declared.value.Value.{Value}
 use Rattle.command.specs.Judging.{Closed, Arrived, arrived, modeFault, response}
 use Rattle.command.specs.Playing.{State, from, judged, next, responses, after}
 use Rattle.command.specs.Calls.{transferIn}
 use Rattle.command.specs.Encoding.{writePacket, encoded}
 use Rattle.command.specs.declared.judge.Judgement.the-variants.{Refuse, Write}
 use Rattle.command.specs.declared.controller.Controller.{Controller}
 use Rattle.command.proofs.Writes.{encoder-judged}
 use Rattle.command.proofs.Serving.{serves, Ready}
-use Rattle.command.proofs.Following.{stateOf, follows}
+use Rattle.demands.proofs.Following.{stateOf, follows}
 
 -- one packet alone
 only : (p : List ℕ) → IsPacket p → packets p ≡ p ∷ []
