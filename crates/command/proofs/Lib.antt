@@ -3,12 +3,7 @@ pub mod Examples
 pub mod Judgements
 pub mod Plays
 pub mod Writes
-pub mod ReadBack
 pub mod Lists
 pub mod Holding
 pub mod Judged
-pub mod Refusing
 pub mod Serving
-pub mod Following
-pub mod Encoded
-pub mod Stepping

@@ -8,7 +8,7 @@ use lib.ListN.{length, getD, take, length-append}
 use Rattle.packet.specs.Packet.{sum, hostWrite, whole}
 use Rattle.packet.specs.Stream.{packets, rest}
 use Rattle.packet.proofs.Cases.{and-both}
-use Rattle.packet.proofs.Writing.{size-written}
+use Rattle.writer.proofs.Writing.{size-written}
 use Rattle.packet.proofs.Framing.{IsPacket, packets-nil, rest-nil, packets-cons, rest-cons}
 use Rattle.settings.specs.Table.{table, cmd1For, cmd2For, layout, sizeOf, allowed}
 use Rattle.values.specs.Fields.{joinAll}

@@ -11,7 +11,7 @@ use lib.ListN.{length, getD, take, drop, length-append}
 use lib.Seq.{sets, take-at}
 use Rattle.packet.specs.Packet.{payloadLength}
 use Rattle.packet.specs.Receiving.{with, between, missing, waiting as receiverWaiting, completed, receiving}
-use Rattle.packet.specs.Writing.{written}
+use Rattle.writer.specs.Writing.{written}
 use Rattle.packet.specs.Calls.{Call, Served, andThen, callsOn, servedOne, served, joined}
 use Rattle.packet.specs.declared.receiver.Receiver.{Receiver}
 use Rattle.packet.specs.declared.receiver.Received.{Received}

@@ -13,7 +13,7 @@ use Rattle.packet.specs.Stream.{packets, rest}
 use Rattle.packet.proofs.Numbers.{bytes-take, bytes-drop}
 use Rattle.packet.proofs.Cases.{cond-cases, bool-cases}
 use Rattle.packet.proofs.Framing.{IsPacket, packets-nil, rest-nil, packets-cons, rest-cons}
-use Rattle.packet.proofs.Writing.{length-written, size-written, packet-written, payload-written, sum-written, packet-remade}
+use Rattle.writer.proofs.Writing.{length-written, size-written, packet-written, payload-written, sum-written, packet-remade}
 use Rattle.values.specs.Fields.{splitAll, joinAll}
 use Rattle.settings.specs.Table.{table, cmd1For, cmd2For, commandOf, isKnown, canRead, same, layout, sizeOf, readable, allowed}
 use Rattle.settings.specs.Settings.{valuesOf, settingsOf, factory, blocked, valuesAfter, store}

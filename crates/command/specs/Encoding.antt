@@ -5,7 +5,7 @@ use mathlib.Core.List.{List, [], _∷_, _++_}
 use lib.Dec.{ltb}
 use lib.ListN.{length}
 use Rattle.packet.specs.Packet.{packetOf, hostWrite, whole}
-use Rattle.packet.specs.Writing.{written}
+use Rattle.writer.specs.Writing.{written}
 use Rattle.settings.specs.Table.{table, cmd1For, cmd2For, allowed}
 use Rattle.settings.specs.Settings.{settingsInRule}
 use Rattle.values.specs.Values.{dataOf}

@@ -2,16 +2,16 @@
 use crate::controller::TransferState;
 use crate::judge::Codes;
 use crate::judge::Judgement;
-use packet::Written;
 use settings::Settings;
 use values::Data;
+use writer::Written;
 ghost use mathlib.Core.Bool.{cond};
 ghost use mathlib.Core.List.{[], _∷_, _++_};
 ghost use mathlib.Core.Path.{_≡_};
 ghost use Prim.Native.Nat.{_+_, _≤_};
 ghost use lib.ListN.{length};
 ghost use Rattle.packet.specs.Packet.{packetOf, whole};
-ghost use Rattle.packet.specs.Writing.{written};
+ghost use Rattle.writer.specs.Writing.{written};
 ghost use Rattle.command.specs.Calls.{transferStateAfter};
 ghost use Rattle.values.specs.Data.{Holds, contents};
 ghost use Rattle.command.specs.Judging.{codesOf, responseType, responseData, settingsAfter as settingsAfterOf};
@@ -62,7 +62,7 @@ pub(crate) fn response_data(s: Settings, j: Judgement) -> Data
         Judgement::Refuse(k) => codes_data(k),
         Judgement::Hold(_) => Data::EMPTY,
         Judgement::Write(_) => Data::EMPTY,
-        Judgement::Read(c) => values::value_of(s, c).data(),
+        Judgement::Read(c) => effects::value_of(s, c).data(),
     }
 }
 
@@ -73,7 +73,7 @@ pub(crate) fn emit(out: &mut [u8], kind: u8, cmd1: u8, cmd2: u8, d: Data) -> usi
 {
     let bytes = d.bytes;
     let n = d.length;
-    match packet::write_packet(out, kind, cmd1, cmd2, packet::WHOLE, &bytes[..n]) {
+    match writer::write_packet(out, kind, cmd1, cmd2, packet::WHOLE, &bytes[..n]) {
         Written::Length(size) => size,
         Written::NoRoom => 0,
     }
@@ -83,7 +83,7 @@ pub(crate) fn settings_after(s: Settings, j: Judgement) -> Settings
     ensures { λ r. ⌜ r ≡ settingsAfterOf s j ⌝ }
 {
     match j {
-        Judgement::Write(v) => values::stored(s, v),
+        Judgement::Write(v) => effects::stored(s, v),
         _ => s,
     }
 }

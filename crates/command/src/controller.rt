@@ -1,9 +1,9 @@
 // The controller: the settings, the open transfer and the receiver. Firmware lends it, so it is
 // made of numbers alone and means something whatever they are.
 use packet::Receiver;
+use rules::settings_in_rule;
 use settings::Command;
 use settings::Settings;
-use settings::settings_in_rule;
 ghost use mathlib.Core.Path.{_≡_};
 ghost use Rattle.command.specs.Calls.{fresh as freshOf, heldIn, inRule, isOpenIn, transferInRule, packetInRule};
 

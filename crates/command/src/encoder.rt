@@ -1,14 +1,14 @@
 // The encoder of write packets and the standard shipping list.
 use crate::carry::emit;
+use effects::allowed;
+use rules::settings_in_rule;
 use settings::Command;
 use settings::Settings;
-use settings::settings_in_rule;
 use values::Value;
-use values::allowed;
 ghost use mathlib.Core.Path.{_≡_};
 ghost use Prim.Native.Nat.{_≤_};
 ghost use lib.ListN.{length};
-ghost use Rattle.packet.specs.Writing.{written};
+ghost use Rattle.writer.specs.Writing.{written};
 ghost use Rattle.command.specs.Encoding.{outcomeOf, encodeCall, listCall, encoded, standardList};
 
 // What the two calls answer.
@@ -67,7 +67,7 @@ fn put_list(out: &mut [u8], s: Settings) -> usize
     let mut at: usize = 0;
     let mut k: usize = 0;
     while k < 9 {
-        let v = values::value_of(s, Command::at(k));
+        let v = effects::value_of(s, Command::at(k));
         at += put(&mut out[at..], v);
         k += 1;
     }

@@ -2,7 +2,7 @@
 use crate::say::text;
 use crate::show::word;
 use packet::Receiver;
-use packet::Written;
+use writer::Written;
 
 // The slices have the same bytes.
 pub fn same(a: &[u8], b: &[u8]) -> bool {
@@ -36,7 +36,7 @@ fn again(out: &mut [u8], r: Receiver, hold: &[u8], p: &[u8]) {
         text(b"none");
         return;
     }
-    match packet::write_packet(out, h[0], h[1], h[2], h[3], &hold[0..n]) {
+    match writer::write_packet(out, h[0], h[1], h[2], h[3], &hold[0..n]) {
         Written::Length(k) => tell(starts_with(out, k, p)),
         Written::NoRoom => text(b"no room"),
     }

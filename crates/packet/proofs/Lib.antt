@@ -4,6 +4,5 @@ pub mod Lists
 pub mod Numbers
 pub mod Framing
 pub mod Receiving
-pub mod Writing
 pub mod Calls
 pub mod Streams

@@ -3,5 +3,4 @@ pub mod Numbers
 pub mod Packet
 pub mod Stream
 pub mod Receiving
-pub mod Writing
 pub mod Calls

@@ -1,21 +1,18 @@
-// The packet layer: bytes to packets and packets to bytes.
+// The packet layer: bytes to packets.
 //
 // A packet is byte 0 its type, 1 CMD1, 2 CMD2, 3 flags, 4 and 5 the payload length, then the
-// payload, then the checksum. This crate frames and writes packets; what a command means is left
-// to the layers above. Its contracts cite `specs/`: `Packet` (the fields), `Stream` (the packets
-// of a list of bytes) and `Receiving` (the receiver).
+// payload, then the checksum. This crate frames packets; writing them, and what a command means,
+// is left to the crates above. Its contracts cite `specs/`: `Packet` (the fields), `Stream` (the
+// packets of a list of bytes) and `Receiving` (the receiver).
 mod next;
 mod number;
 mod receiver;
-mod write;
 
 pub use next::Next;
 pub use next::next_packet;
 pub use number::word;
 pub use receiver::Received;
 pub use receiver::Receiver;
-pub use write::Written;
-pub use write::write_packet;
 ghost use mathlib.Core.Path.{_≡_};
 ghost use Rattle.packet.specs.Packet.{typesAndFlags};
 

@@ -23,8 +23,8 @@ use Rattle.command.specs.Calls.{Outcome, Waits, Answers, Refuses, After, noTran
 use Rattle.command.specs.declared.controller.Controller.{Controller}
 use Rattle.command.proofs.Holding.{open-is}
 use Rattle.command.proofs.Serving.{Ready, rule-parts, stays-in-rule}
-use Rattle.command.proofs.Following.{stateOf}
-use Rattle.command.proofs.Stepping.{Takes, takes-packet, takes-part}
+use Rattle.demands.proofs.Following.{stateOf}
+use Rattle.demands.proofs.Stepping.{Takes, takes-packet, takes-part}
 
 -- The bytes up to `at` were played from s, and left the head c; `good` tells whether each packet so far was acknowledged.
 pub record Going (s : Settings) (b : List ℕ) (c : Controller) (good : Bool) (at : ℕ) : Type 0 where

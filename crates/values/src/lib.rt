@@ -1,4 +1,4 @@
-// A command with its values: read from the data of a packet, made into data, and stored.
+// A command with its values: read from the data of a packet, and made into data.
 //
 // The contracts cite `specs/`: `Fields` (numbers of several bytes, one after the other), `Values`
 // (a command with its values) and `Data` (the bytes of a packet's data).
@@ -9,7 +9,3 @@ mod value;
 pub use data::Data;
 pub use value::Parsed;
 pub use value::Value;
-pub use value::allowed;
-pub use value::blocked;
-pub use value::stored;
-pub use value::value_of;

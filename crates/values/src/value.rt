@@ -10,7 +10,6 @@ use settings::Drive;
 use settings::LedCurrent;
 use settings::Microseconds;
 use settings::PatternSequence;
-use settings::Settings;
 use settings::StaticColour;
 use settings::VideoInput;
 use settings::VideoMode;
@@ -19,9 +18,8 @@ ghost use lib.ListN.{length};
 ghost use Rattle.values.specs.Data.{Holds};
 ghost use Rattle.values.specs.Fields.{splitAll, joinAll};
 ghost use Rattle.settings.specs.Parts.{currentValues, colourValues, settingValues, inputValues, videoValues, sequenceValues, currentFrom, colourFrom, settingFrom, inputFrom, videoFrom, sequenceFrom};
-ghost use Rattle.settings.specs.Settings.{blocked as blockedIn, store as storeIn, valuesOf};
-ghost use Rattle.settings.specs.Table.{allowed as allowedIn, layout, sizeOf};
-ghost use Rattle.values.specs.Values.{commandIn, valuesIn, valueFrom, dataIn, parsed};
+ghost use Rattle.settings.specs.Table.{layout, sizeOf};
+ghost use Rattle.values.specs.Values.{commandIn, valueFrom, dataIn, parsed};
 ghost use Rattle.settings.specs.declared.command.Command.the-variants as command;
 
 pub enum Value {
@@ -239,107 +237,5 @@ impl Value {
             Value::PatternSequence(_) => Command::PatternSequence,
             Value::SequenceRun(_) => Command::SequenceRun,
         }
-    }
-}
-
-// The values of a command.
-pub fn value_of(s: Settings, c: Command) -> Value
-    ensures { λ r. ⌜ r ≡ valueFrom c (valuesOf c s) ⌝ }
-{
-    match c {
-        Command::DisplayMode => Value::DisplayMode(s.mode),
-        Command::TestPattern => Value::TestPattern(s.pattern),
-        Command::LedCurrent => {
-            let q = s.current;
-            Value::LedCurrent(q)
-        }
-        Command::StaticColour => {
-            let q = s.colour;
-            Value::StaticColour(q)
-        }
-        Command::DisplaySetting => {
-            let q = s.setting;
-            Value::DisplaySetting(q)
-        }
-        Command::VideoInput => {
-            let q = s.input;
-            Value::VideoInput(q)
-        }
-        Command::VideoMode => {
-            let q = s.video;
-            Value::VideoMode(q)
-        }
-        Command::PatternSequence => {
-            let q = s.sequence;
-            Value::PatternSequence(q)
-        }
-        Command::SequenceRun => Value::SequenceRun(s.run),
-    }
-}
-
-// The settings after a write. A mode other than 4 stops the sequence.
-pub fn stored(s: Settings, v: Value) -> Settings
-    ensures { λ r. ⌜ r ≡ storeIn (commandIn v) (valuesIn v) s ⌝ }
-{
-    let mut t = s;
-    match v {
-        Value::DisplayMode(m) => {
-            t.mode = m;
-            if m != 4 {
-                t.run = 0;
-            }
-        }
-        Value::TestPattern(p) => {
-            t.pattern = p;
-        }
-        Value::LedCurrent(q) => {
-            t.current = q;
-        }
-        Value::StaticColour(q) => {
-            t.colour = q;
-        }
-        Value::DisplaySetting(q) => {
-            t.setting = q;
-        }
-        Value::VideoInput(q) => {
-            t.input = q;
-        }
-        Value::VideoMode(q) => {
-            t.video = q;
-        }
-        Value::PatternSequence(q) => {
-            t.sequence = q;
-        }
-        Value::SequenceRun(r) => {
-            t.run = r;
-        }
-    }
-    t
-}
-
-// The values of a write are allowed.
-pub fn allowed(v: Value) -> bool
-    ensures { λ r. ⌜ r ≡ allowedIn (commandIn v) (valuesIn v) ⌝ }
-{
-    match v {
-        Value::DisplayMode(m) => settings::display_mode(m),
-        Value::TestPattern(p) => settings::test_pattern(p),
-        Value::LedCurrent(q) => settings::led_current(q),
-        Value::StaticColour(q) => settings::static_colour(q),
-        Value::DisplaySetting(q) => settings::display_setting(q),
-        Value::VideoInput(q) => settings::video_input(q),
-        Value::VideoMode(q) => settings::video_mode(q),
-        Value::PatternSequence(q) => settings::pattern_sequence(q),
-        Value::SequenceRun(r) => settings::sequence_run(r),
-    }
-}
-
-// Run 1 outside display mode 4.
-pub fn blocked(v: Value, mode: u8) -> bool
-    ensures { λ r. ⌜ r ≡ blockedIn (commandIn v) (valuesIn v) mode ⌝ }
-{
-    match v {
-        Value::SequenceRun(r) => (r == 1) & !(mode == 4),
-        _ => false,
     }
 }

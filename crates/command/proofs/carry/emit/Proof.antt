@@ -6,9 +6,9 @@ use denote.Ref.{now}
 use lib.ListN.{length, take}
 use lib.Seq.{length-take-le}
 use Rattle.packet.specs.Packet.{packetOf, whole}
-use Rattle.packet.specs.Writing.{written}
-use Rattle.packet.specs.declared.write.Written.the-variants.{Length, NoRoom}
-use Rattle.packet.proofs.Writing.{has-room, size-written}
+use Rattle.writer.specs.Writing.{written}
+use Rattle.writer.specs.declared.write.Written.the-variants.{Length, NoRoom}
+use Rattle.writer.proofs.Writing.{has-room, size-written}
 use Rattle.values.specs.Data.{contents}
 use borrow.Author.Needs.{needs}
 use Rattle.command.proofs.carry.emit.Statement.{statement}

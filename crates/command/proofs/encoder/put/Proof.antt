@@ -5,7 +5,7 @@ use mathlib.Core.List.{List}
 use denote.Ref.{now}
 use lib.ListN.{length}
 use Rattle.packet.specs.Packet.{packetOf, hostWrite, whole}
-use Rattle.packet.specs.Writing.{written}
+use Rattle.writer.specs.Writing.{written}
 use Rattle.command.specs.Encoding.{writePacket, encoded}
 use Rattle.settings.specs.Table.{cmd1For, cmd2For}
 use Rattle.values.specs.Values.{commandIn, dataIn}

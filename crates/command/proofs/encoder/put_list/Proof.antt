@@ -7,8 +7,8 @@ use mathlib.Core.List.{List, _++_}
 use borrow.Rule.Slice.PartMut.{putMid}
 use lib.ListN.{length, take, drop, length-take, length-drop, length-append}
 use Rattle.packet.specs.Packet.{sum}
-use Rattle.packet.specs.Writing.{written}
-use Rattle.packet.proofs.Writing.{written-none, written-part, length-written-to}
+use Rattle.writer.specs.Writing.{written}
+use Rattle.writer.proofs.Writing.{written-none, written-part, length-written-to}
 use Rattle.settings.specs.Table.{table, commandAt, sizeOf}
 use Rattle.command.specs.Encoding.{writePacket, encoded, listOf, standardList}
 use Rattle.settings.specs.Settings.{valuesOf}

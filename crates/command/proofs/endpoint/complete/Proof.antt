@@ -8,7 +8,7 @@ use denote.Ref.{now}
 use mathlib.Core.Bool.{Bool}
 use lib.ListN.{length, getD}
 use Rattle.packet.specs.Packet.{packetOf, payloadLength, whole}
-use Rattle.packet.specs.Writing.{written}
+use Rattle.writer.specs.Writing.{written}
 use Rattle.packet.specs.declared.receiver.Receiver.{Receiver}
 use Rattle.command.specs.Judging.{responseType, responseData, settingsAfter, response}
 use Rattle.command.specs.Calls.{Answers, heldIn, judgedIn, transferStateAfter, responseIn, completeBy}

@@ -1,0 +1,74 @@
+-- One call at a packet boundary, for callers that go packet by packet.
+use Prim.Native.Nat.{ℕ, _+_, _≤_}
+use mathlib.Core.Path.{_≡_, refl, ap, sym, subst, _∙_}
+use mathlib.Core.Bool.{Bool, true, false, cond}
+use mathlib.Core.List.{List, [], _∷_, _++_}
+use native.Mathlib.Omega.{arith}
+use lib.Dec.{eqb}
+use lib.ListN.{length, getD, drop, take}
+use Rattle.packet.specs.Packet.{writeResponse, packetOf, sealed}
+use Rattle.packet.specs.Stream.{hasPacket}
+use Rattle.packet.specs.Receiving.{with, waiting as receiverWaiting}
+use Rattle.writer.specs.Writing.{written}
+use Rattle.packet.specs.declared.receiver.Received.{Received}
+use Rattle.packet.proofs.Framing.{IsPacket}
+use Rattle.packet.proofs.Receiving.{Between, between-packet, one, first-of, too-few}
+use Rattle.command.specs.Judging.{arrived, acknowledged, responseType, response}
+use Rattle.command.specs.Playing.{State, judged, next}
+use Rattle.command.specs.Calls.{Outcome, Waits, Answers, heldIn, judgedIn, carriedOut, responseIn, After, waiting, answered, receiveCall}
+use Rattle.command.specs.declared.judge.Judgement.{Judgement}
+use Rattle.command.specs.declared.judge.Judgement.the-variants.{Refuse, Hold, Write, Read}
+use Rattle.command.specs.declared.controller.Controller.{Controller}
+use Rattle.command.proofs.Serving.{Ready, not-refused, stays-in-rule}
+use Rattle.demands.proofs.Following.{stateOf, response-same, state-same, part-state}
+
+-- a write response is told by its first byte
+acknowledged-type : (j : Judgement) → eqb (responseType j) writeResponse ≡ acknowledged j
+acknowledged-type (Refuse k) = refl
+acknowledged-type (Hold c) = refl
+acknowledged-type (Write v) = refl
+acknowledged-type (Read c) = refl
+
+-- what a call does that completes the packet p: its count, the state afterwards, and whether p was acknowledged
+pub record Takes (c : Controller) (p : List ℕ) (r : After) : Type 0 where
+  pub length : ℕ
+  pub answer : r .answer ≡ Answers (lib.ListN.length p) length
+  pub state : stateOf (r .controller) ≡ next (stateOf c) p
+  pub ready : Ready (r .controller)
+  pub boundary : Between (r .controller .receiver)
+  pub good : eqb (getD (r .output) 0 0) writeResponse ≡ acknowledged (judged (stateOf c) p)
+
+module _ (out : List ℕ) (l : 64 ≤ length out) (c : Controller) (k : Ready c) (q : Between (c .receiver)) where
+  pub takes-packet : (p b : List ℕ) → IsPacket p → Takes c p (receiveCall c (p ++ b) out)
+  takes-packet p b i =
+      let e : receiveCall c (p ++ b) out ≡ answered c (one (c .receiver) (heldIn (c .transfer)) p) out =
+      not-refused c (p ++ b) out k l
+      ∙ ap (λ (t : Received). cond (t .complete) (answered c t out) (waiting c t out)) (first-of (c .receiver) (heldIn (c .transfer)) q p b i) in
+      record {
+        length = length (responseIn c (one (c .receiver) (heldIn (c .transfer)) p));
+        answer = ap (λ (r : After). r .answer) e;
+        state = ap (λ (r : After). stateOf (r .controller)) e ∙ state-same c k p i;
+        ready = stays-in-rule c (p ++ b) out k l;
+        boundary = subst (λ (r : After). Between (r .controller .receiver)) (sym e) (between-packet (c .receiver) (heldIn (c .transfer)) p i);
+        good =
+            ap (λ (r : After). eqb (getD (r .output) 0 0) writeResponse) e
+            ∙ ap (λ (m : List ℕ). eqb (getD (written m out) 0 0) writeResponse) (response-same c k p i)
+            ∙ first-byte (judged (stateOf c) p);
+      }
+    where
+      first-byte : (j : Judgement) → eqb (getD (written (response (c .settings) (arrived p) j) out) 0 0) writeResponse ≡ acknowledged j
+      first-byte j = unfold written response packetOf sealed in acknowledged-type j
+
+  -- what a call does that completes none: all bytes are taken, and the state stays
+  pub takes-part : (b : List ℕ) → hasPacket b ≡ false
+      → (receiveCall c b out .answer ≡ Waits (length b)) × (stateOf (receiveCall c b out .controller) ≡ stateOf c)
+      × (receiveCall c b out .controller .receiver .received ≡ length b)
+  unfolding receiverWaiting with
+  takes-part b h =
+      let e : receiveCall c b out ≡ waiting c (receiverWaiting (c .receiver) (heldIn (c .transfer)) b) out =
+      not-refused c b out k l
+      ∙ ap (λ (t : Received). cond (t .complete) (answered c t out) (waiting c t out)) (too-few (c .receiver) (heldIn (c .transfer)) q b h) in (
+        ap (λ (r : After). r .answer) e,
+        ap (λ (r : After). stateOf (r .controller)) e ∙ part-state c b k q,
+        ap (λ (r : After). r .controller .receiver .received) e ∙ omega (arith, q .received),
+      )

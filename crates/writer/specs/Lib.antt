@@ -1,0 +1,2 @@
+-- What the contract of the writer cites.
+pub mod Writing
