@@ -1,7 +1,7 @@
 // The line that tells the answer to a report.
+use layout::Outcome;
 use libc::STDOUT_FILENO;
 use report::Checked;
-use report::Outcome;
 
 fn text(t: &[u8]) {
     io::write_all(STDOUT_FILENO, t);

@@ -1,6 +1,2 @@
--- What the contracts of the report checker cite, in the order of document 01.
-pub mod Records
-pub mod Report
-pub mod Claim
-pub mod Refusals
-pub mod Found
+-- What the contract of the report checker cites.
+pub mod Answers

@@ -1,15 +1,8 @@
-// The tuning report: any bytes in, a yes or a no out.
+// The tuning report checked: any bytes in, a yes or a no out.
 //
-// The contracts cite `specs/`: `Records` (a refusal or a value, and the record that is due),
-// `Report` (the layout, the trials and the verdict), `Claim` (demand 3), `Refusals` (document 01's
-// table of refusals) and `Found` (what the code read).
-mod layout;
-mod player;
-mod record;
+// The contract of `check` cites `Demand3` and `verdict` of the crate tuning, and `specs/Answers`.
 mod same;
-mod trial;
 mod verdict;
 
-pub use record::Outcome;
 pub use verdict::Checked;
 pub use verdict::check;

@@ -8,7 +8,7 @@ use settings::VideoInput;
 use settings::VideoMode;
 ghost use mathlib.Core.Path.{_≡_};
 ghost use Rattle.settings.specs.Parts.{currentValues, colourValues, settingValues, inputValues, videoValues, sequenceValues};
-ghost use Rattle.report.specs.Report.{sameList, sameSettings};
+ghost use Rattle.tuning.specs.Report.{sameList, sameSettings};
 
 fn same_current(a: LedCurrent, b: LedCurrent) -> bool
     ensures { λ r. ⌜ r ≡ sameList (currentValues a) (currentValues b) ⌝ }

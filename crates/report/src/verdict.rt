@@ -1,16 +1,17 @@
 // The yes or the no.
-use crate::layout::count_of;
-use crate::layout::winner_of;
-use crate::player::play;
-use crate::record::Outcome;
 use crate::same::same_settings;
-use crate::trial::best_of;
+use layout::Outcome;
+use layout::count_of;
+use layout::refusal;
+use layout::winner_of;
 use settings::Settings;
+use trials::best_of;
+use trials::play;
 ghost use mathlib.Core.Path.{_≡_};
 ghost use Rattle.settings.specs.Settings.{factory};
-ghost use Rattle.report.specs.Report.{verdict};
-ghost use Rattle.report.specs.Claim.{Demand3};
-ghost use Rattle.report.specs.Found.{verdictIn, scoreIn, settingsIn};
+ghost use Rattle.tuning.specs.Report.{verdict};
+ghost use Rattle.tuning.specs.Claim.{Demand3};
+ghost use Rattle.report.specs.Answers.{verdictIn, scoreIn, settingsIn};
 
 // The answer to a report.
 pub struct Checked {
@@ -47,29 +48,18 @@ pub fn check(r: &[u8]) -> Checked
     let Outcome::Value(place) = next else {
         return refused(next);
     };
-    let named = winner_of(r, place, count);
-    let Outcome::Value(winner) = named else {
+    let named = winner_of(r, place, count, best.trial);
+    let Outcome::Value(_) = named else {
         return refused(named);
     };
-    if winner != best.trial {
-        return refused(Outcome::Refused {
-            number: 17,
-            place: place,
-        });
-    }
-    let shipped = play(Settings::FACTORY, &r[place + 10..]);
+    let ship = place + 6;
+    let shipped = play(Settings::factory(), &r[ship + 4..]);
     if !shipped.clean {
-        return refused(Outcome::Refused {
-            number: 18,
-            place: place + 6,
-        });
+        return refused(refusal(18, ship));
     }
     let settings = best.settings;
     if !same_settings(shipped.settings, settings) {
-        return refused(Outcome::Refused {
-            number: 19,
-            place: place + 6,
-        });
+        return refused(refusal(19, ship));
     }
     Checked {
         trial: named,

@@ -1,6 +1,6 @@
 -- `same_colour` meets its contract.
 use mathlib.Core.Path.{refl}
-use Rattle.report.specs.Report.{sameList}
+use Rattle.tuning.specs.Report.{sameList}
 use Rattle.report.proofs.same.same_colour.Statement.{statement}
 use Rattle.report.proofs.same.same_colour.Tie as tie
 use Rattle.report.proofs.same.same_colour.Reads as reads

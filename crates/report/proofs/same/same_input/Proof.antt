@@ -1,6 +1,6 @@
 -- `same_input` meets its contract.
 use mathlib.Core.Path.{refl}
-use Rattle.report.specs.Report.{sameList}
+use Rattle.tuning.specs.Report.{sameList}
 use Rattle.report.proofs.same.same_input.Statement.{statement}
 use Rattle.report.proofs.same.same_input.Tie as tie
 use Rattle.report.proofs.same.same_input.Reads as reads

@@ -1,6 +1,6 @@
 -- `same_setting` meets its contract.
 use mathlib.Core.Path.{refl}
-use Rattle.report.specs.Report.{sameList}
+use Rattle.tuning.specs.Report.{sameList}
 use Rattle.report.proofs.same.same_setting.Statement.{statement}
 use Rattle.report.proofs.same.same_setting.Tie as tie
 use Rattle.report.proofs.same.same_setting.Reads as reads

@@ -1,5 +1,5 @@
 -- `same_settings` meets its contract.
-use Rattle.report.specs.Report.{every, sameList, sameSettings}
+use Rattle.tuning.specs.Report.{every, sameList, sameSettings}
 use borrow.Author.Needs.{needs}
 use Rattle.report.proofs.same.same_settings.Statement.{statement}
 use Rattle.report.proofs.same.same_settings.Tie as tie

@@ -1,0 +1,2 @@
+-- What the contracts of the layout cite.
+pub mod Found

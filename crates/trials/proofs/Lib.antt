@@ -1,0 +1,3 @@
+-- The laws of the trials.
+pub mod Going
+pub mod Walking

@@ -1,0 +1,127 @@
+-- `best_of` meets its contract. The loop's invariant: so many of the trials have been read.
+use Prim.Native.Nat.{ℕ, _≤_, _<_, _-_, _+_}
+use mathlib.Core.Path.{_≡_, sym, subst}
+use mathlib.Core.Bool.{true}
+use mathlib.Core.Logic.{inl, inr}
+use mathlib.Core.List.{[]}
+use native.Mathlib.Omega.{arith}
+use borrow.Author.Needs.{needs}
+use denote.Ref.{now}
+use lib.ListN.{drop}
+use Rattle.settings.specs.Settings.{factory, settingsInRule}
+use Rattle.settings.specs.declared.settings.Settings.{Settings}
+use Rattle.settings.proofs.Keeping.{kept-factory, in-rule-of}
+use Rattle.tuning.specs.Refusals.{Begins}
+use Rattle.layout.specs.declared.record.Outcome.{Outcome}
+use Rattle.trials.specs.Found.{TrialRead, TrialIs}
+use Rattle.trials.proofs.Walking.{Walked, walked-start, walked-better, walked-other, walked-by, walked-end, no-trials, rule-trial}
+use Rattle.trials.proofs.trial.best_of.Statement.{statement}
+use Rattle.trials.proofs.trial.best_of.Tie as tie
+use Rattle.trials.proofs.trial.best_of.Reads as reads
+use Rattle.trials.proofs.trial.best_of.Lts as lts
+use Rattle.settings.proofs.settings.Settings.factory.Reads as factory-reads
+use Rattle.trials.proofs.trial.trial_at.Reads as trial-at-reads
+
+abbrev Inv-loop : tie.InvT-loop
+Inv-loop r count at₀ last₀ best₀ trial₀ score₀ i₀ at last best trial score i =
+    (i ≤ count) × (settingsInRule last ≡ true) × (0 < count → Begins r count [] (drop 8 r) → Walked r count i at last trial score best)
+
+abbrev μ-loop : tie.MeasureT-loop
+μ-loop r count at₀ last₀ best₀ trial₀ score₀ i₀ at last best trial score i = count - i
+
+-- the trial of a turn
+trial-in : (c : tie.After-next Inv-loop μ-loop)
+    → let t = c .before .before .before in
+    let l = t .before .before in
+    TrialIs (now (l .before .before .before .args .r)) (l .loop .at) (l .loop .last) (c .next .given .0 .0) (t .trial-at .result .score) (t .trial-at .result .settings)
+trial-in c =
+    let t = c .before .before .before in
+    let l = t .before .before in
+    subst (λ (o : Outcome). TrialRead (now (l .before .before .before .args .r)) (l .loop .at) (l .loop .last) o (t .trial-at .result .score) (t .trial-at .result .settings)) (c .next .given .1) (t .trial-at .ensures)
+
+-- one trial more
+again : (c : tie.Joined1 Inv-loop μ-loop)
+    → let n = c .before .before .before in
+    let t = n .before .before .before in
+    let l = t .before .before in
+    let a = l .before .before .before .args in
+    0 < a .count
+    → Begins (now (a .r)) (a .count) [] (drop 8 (now (a .r)))
+    → Walked (now (a .r)) (a .count) (l .loop .i + 1) (n .next .given .0 .0) (t .trial-at .result .settings) (c .if1 .trial) (c .if1 .score) (c .if1 .best)
+again c z g =
+    let n = c .before .before .before in
+    let l = n .before .before .before .before .before in
+    let w = l .loop .inv .2 z g in
+    elim (c .if1 .came) [
+      | inl q ↦ walked-by (q .2) (q .3) (q .1) (walked-better w (trial-in n) (q .0 .taken))
+      | inr q ↦ walked-by (q .2) (q .3) (q .1) (walked-other w (trial-in n) (q .0 .left))
+    ]
+
+factory-requires : tie.Need-factory-requires Inv-loop μ-loop
+factory-requires c κs = search needs
+
+loop-holds : tie.Need-loop-holds Inv-loop μ-loop
+loop-holds c =
+    let a = c .before .before in
+    let r = now (a .args .r) in
+    let e = sym (c .factory .ensures) in (
+      omega arith,
+      subst (λ (s : Settings). settingsInRule s ≡ true) e (in-rule-of factory kept-factory),
+      λ z g.
+          subst (λ (s : Settings). Walked r (a .args .count) 0 8 s 0 0 s) e (walked-start r (a .args .count) g),
+    )
+
+trial-at-requires : tie.Need-trial-at-requires Inv-loop μ-loop
+trial-at-requires c κs = c .before .loop .inv .1
+
+enum-known-next : tie.Need-enum-known-next Inv-loop μ-loop
+enum-known-next c = search needs
+
+enum-told : tie.Need-enum-told Inv-loop μ-loop
+enum-told c = search needs
+
+returns : tie.Need-returns Inv-loop μ-loop
+returns c z g =
+    let t = c .before .before .before in
+    let l = t .before .before in
+    let a = l .before .before .before .args in
+    let w = l .loop .inv .2 z g in
+    let none =
+    subst (λ (o : Outcome). TrialRead (now (a .r)) (l .loop .at) (l .loop .last) o (t .trial-at .result .score) (t .trial-at .result .settings)) (c .enum-told .given .1) (t .trial-at .ensures) in
+    no-trials (a .count) _ _ _ (c .enum-told .given .1) (none (a .count) (w .list) (w .begins) (omega (arith, w .count, t .before .loop-test .taken)) (w .place))
+
+add-i : tie.Need-add-i Inv-loop μ-loop
+add-i c =
+    let t = c .before .before .before .before .before .before in
+    omega (arith, t .before .loop-test .taken, t .before .before .before .before .before .fits .count)
+
+loop-less : tie.Need-loop-less Inv-loop μ-loop
+loop-less c =
+    let t = c .before .before .before .before .before .before in
+    omega (arith, t .before .loop-test .taken)
+
+loop-again : tie.Need-loop-again Inv-loop μ-loop
+loop-again c =
+    let n = c .before .before .before in
+    let t = n .before .before .before in
+    (omega (arith, t .before .loop-test .taken), rule-trial (t .before .before .loop .inv .1) (trial-in n), again c)
+
+returns-2 : tie.Need-returns-2 Inv-loop μ-loop
+returns-2 c z g = walked-end (c .before .loop .inv .2 z g) (omega (arith, c .before .loop .inv .0, c .loop-test .left)) z
+
+pub best-of-spec : {M : Type 1} → statement M
+best-of-spec =
+    tie.close
+    (tie.spec
+    Inv-loop
+    μ-loop
+    factory-requires
+    loop-holds
+    trial-at-requires
+    enum-known-next
+    enum-told
+    returns
+    add-i
+    loop-less
+    loop-again
+    returns-2)

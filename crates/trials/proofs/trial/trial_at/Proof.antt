@@ -1,0 +1,180 @@
+-- `trial_at` meets its contract.
+use Prim.Native.Nat.{ℕ, _+_, _-_, _≤_}
+use mathlib.Core.Path.{_≡_, ap, _∙_, subst}
+use mathlib.Core.Bool.{Bool, cond}
+use mathlib.Core.List.{List}
+use native.Mathlib.Omega.{arith}
+use denote.Ref.{now}
+use lib.ListN.{length, take, drop}
+use Rattle.packet.specs.Numbers.{Bytes}
+use Rattle.packet.proofs.Numbers.{bytes-at}
+use Rattle.command.specs.Playing.{play}
+use Rattle.tuning.specs.Records.{reading}
+use Rattle.layout.specs.Found.{pieceOf, endOf}
+use Rattle.layout.specs.declared.record.Outcome.{Outcome}
+use Rattle.layout.specs.declared.record.Outcome.the-variants.{Value}
+use Rattle.trials.proofs.Walking.{no-trial, trial-missed, trial-13, trial-is}
+use borrow.Author.Needs.{needs}
+use Rattle.trials.proofs.trial.trial_at.Statement.{statement}
+use Rattle.trials.proofs.trial.trial_at.Tie as tie
+use Rattle.trials.proofs.trial.trial_at.Reads as reads
+use Rattle.trials.proofs.trial.trial_at.Lts as lts
+use Rattle.layout.proofs.record_at.Reads as record-at-reads
+use Rattle.layout.proofs.refusal.Reads as refusal-reads
+use Rattle.packet.proofs.word.Reads as word-reads
+use Rattle.trials.proofs.player.play.Reads as play-reads
+
+-- the report, whose elements are bytes
+abbrev reportIn : tie.After-shared-slice-known → List ℕ
+reportIn c = now (c .before .args .r)
+
+all-bytes : (c : tie.After-shared-slice-known) → Bytes (reportIn c)
+all-bytes c = bytes-at (reportIn c) (λ i. c .shared-slice-known .given i .fits)
+
+-- what the record's reading gave
+abbrev ReadAt : List ℕ → ℕ → Outcome → Type 0
+ReadAt r at o = (pieceOf r at o ≡ reading 2 at (drop at r)) × (endOf at o ≤ length r)
+
+found-trial : (c : tie.After-due) → let k = c .before .before .before in ReadAt (reportIn k) (k .before .args .at) (Value (c .due .given .0 .0))
+found-trial c =
+    let k = c .before .before .before in
+    subst (ReadAt (reportIn k) (k .before .args .at)) (c .due .given .1) (c .before .before .record-at .ensures)
+
+record-at-requires : tie.Need-record-at-requires
+record-at-requires c κs = search needs
+
+enum-known-due : tie.Need-enum-known-due
+enum-known-due c = search needs
+
+enum-told : tie.Need-enum-told
+enum-told c = search needs
+
+returns : tie.Need-returns
+returns c =
+    let p = c .before .before in
+    let k = p .before in
+    let a = k .before .args in
+    let o = c .enum-told .given in
+    no-trial (a .s) _ _ (o .1)
+    (trial-missed (reportIn k) (all-bytes k) (a .at) (o .0 .0) (o .0 .1 .0) (subst (ReadAt (reportIn k) (a .at)) (o .1) (p .record-at .ensures) .0))
+
+add-next : tie.Need-add-next
+add-next c = omega (arith, found-trial (c .before) .1)
+
+add-next-2 : tie.Need-add-next-2
+add-next-2 c = omega (arith, found-trial (c .before) .1)
+
+refusal-requires : tie.Need-refusal-requires
+refusal-requires c κs = search needs
+
+returns-2 : tie.Need-returns-2
+returns-2 c =
+    let d = c .before .before .before in
+    let k = d .before .before .before in
+    let a = k .before .args in
+    let f = found-trial d in
+    no-trial (a .s) _ _ (c .refusal .ensures) (trial-13 (reportIn k) (all-bytes k) (a .at) (d .due .given .0 .0) (f .1) (f .0) (c .before .if1 .taken))
+
+add-word : tie.Need-add-word
+add-word c = omega (arith, found-trial (c .before .before) .1)
+
+shared-slice-read-word : tie.Need-shared-slice-read-word
+shared-slice-read-word c =
+    let e = c .before in
+    omega (arith, found-trial (e .before .before) .1, e .if1 .left)
+
+add-word-2 : tie.Need-add-word-2
+add-word-2 c = omega (arith, found-trial (c .before .before .before) .1)
+
+shared-slice-read-word-2 : tie.Need-shared-slice-read-word-2
+shared-slice-read-word-2 c =
+    let e = c .before .before in
+    omega (arith, found-trial (e .before .before) .1, e .if1 .left)
+
+word-requires : tie.Need-word-requires
+word-requires c κs = search needs
+
+add-word-3 : tie.Need-add-word-3
+add-word-3 c = omega (arith, found-trial (c .before .before .before .before .before) .1)
+
+shared-slice-read-word-3 : tie.Need-shared-slice-read-word-3
+shared-slice-read-word-3 c =
+    let e = c .before .before .before .before in
+    omega (arith, found-trial (e .before .before) .1, e .if1 .left)
+
+add-word-4 : tie.Need-add-word-4
+add-word-4 c = omega (arith, found-trial (c .before .before .before .before .before .before) .1)
+
+shared-slice-read-word-4 : tie.Need-shared-slice-read-word-4
+shared-slice-read-word-4 c =
+    let e = c .before .before .before .before .before in
+    omega (arith, found-trial (e .before .before) .1, e .if1 .left)
+
+word-requires-2 : tie.Need-word-requires-2
+word-requires-2 c κs = search needs
+
+add-play : tie.Need-add-play
+add-play c = omega (arith, found-trial (c .before .before .before .before .before .before .before .before) .1)
+
+sub-play : tie.Need-sub-play
+sub-play c = search needs
+
+part-play-start : tie.Need-part-play-start
+part-play-start c = search needs
+
+part-play-end : tie.Need-part-play-end
+part-play-end c = omega (arith, found-trial (c .before .before .before .before .before .before .before .before) .1)
+
+play-requires : tie.Need-play-requires
+play-requires c κs = search needs
+
+mul-t11 : tie.Need-mul-t11
+mul-t11 c = search needs
+
+add-t16 : tie.Need-add-t16
+add-t16 c = search needs
+
+returns-3 : tie.Need-returns-3
+returns-3 c =
+    let v = c .before .before .before in
+    let w = v .before .before .before in
+    let e = w .before .before .before in
+    let d = e .before .before in
+    let k = d .before .before .before in
+    let a = k .before .args in
+    let f = found-trial d in
+    let n = d .due .given .0 .0 in
+    let bytes = take (a .at + 4 + n - (a .at + 8)) (drop (a .at + 8) (reportIn k)) in
+    trial-is (reportIn k) (all-bytes k) (a .at) n (f .1) (f .0) (omega (arith, e .if1 .left)) (w .word .ensures .0) (v .word2 .ensures .0)
+    (c .before .play .ensures .0 ∙ ap (λ (x : Bool). cond x (play (a .s) bytes .settings) (a .s)) (k .before .pre))
+
+pub trial-at-spec : {M : Type 1} → statement M
+trial-at-spec =
+    tie.close
+    (tie.spec
+    record-at-requires
+    enum-known-due
+    enum-told
+    returns
+    add-next
+    add-next-2
+    refusal-requires
+    returns-2
+    add-word
+    shared-slice-read-word
+    add-word-2
+    shared-slice-read-word-2
+    word-requires
+    add-word-3
+    shared-slice-read-word-3
+    add-word-4
+    shared-slice-read-word-4
+    word-requires-2
+    add-play
+    sub-play
+    part-play-start
+    part-play-end
+    play-requires
+    mul-t11
+    add-t16
+    returns-3)

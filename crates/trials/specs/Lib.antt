@@ -1,0 +1,3 @@
+-- What the contracts of the trials cite.
+pub mod Played
+pub mod Found

@@ -1,0 +1,97 @@
+// The trials of a report, in one pass: the first of the lowest-scored, and where it ended.
+use crate::player::play;
+use layout::Outcome;
+use layout::record_at;
+use layout::refusal;
+use settings::Settings;
+ghost use mathlib.Core.Path.{_≡_};
+ghost use mathlib.Core.Bool.{true};
+ghost use Rattle.settings.specs.Settings.{settingsInRule};
+ghost use Rattle.trials.specs.Found.{TrialRead, BestRead};
+
+// One trial: the place after its record, its score, and the settings that it ended with.
+pub struct Trial {
+    pub next: Outcome,
+    pub score: usize,
+    pub settings: Settings,
+}
+
+// The first of the lowest-scored trials, with its score and the settings that it ended with, and the
+// place after all of them.
+pub struct Best {
+    pub next: Outcome,
+    pub trial: usize,
+    pub score: usize,
+    pub settings: Settings,
+}
+
+// The trial at a place, played from s.
+fn trial_at(r: &[u8], at: usize, s: Settings) -> Trial
+    requires { ⌜ settingsInRule s ≡ true ⌝ }
+    ensures { λ t. ⌜ TrialRead (now (r .entry)) at s (t .next) (t .score) (t .settings) ⌝ }
+{
+    let due = record_at(r, at, 2);
+    let Outcome::Value(n) = due else {
+        return Trial {
+            next: due,
+            score: 0,
+            settings: s,
+        };
+    };
+    let next = at + 4 + n;
+    if n < 4 {
+        return Trial {
+            next: refusal(13, at),
+            score: 0,
+            settings: s,
+        };
+    }
+    let low = packet::word(r[at + 4], r[at + 5]);
+    let high = packet::word(r[at + 6], r[at + 7]);
+    let played = play(s, &r[at + 8..next]);
+    let settings = played.settings;
+    Trial {
+        next: Outcome::Value(next),
+        score: low + 65536 * high,
+        settings: settings,
+    }
+}
+
+// That many trials, from byte 8 on; trial 0 starts from factory values, each later trial from where
+// the last ended.
+pub fn best_of(r: &[u8], count: usize) -> Best
+    ensures { λ t. ⌜ BestRead (now (r .entry)) count (t .next) (t .trial) (t .score) (t .settings) ⌝ }
+{
+    let mut at: usize = 8;
+    let mut last = Settings::factory();
+    let mut best = last;
+    let mut trial: usize = 0;
+    let mut score: usize = 0;
+    let mut i: usize = 0;
+    while i < count {
+        let t = trial_at(r, at, last);
+        let next = t.next;
+        last = t.settings;
+        let Outcome::Value(place) = next else {
+            return Best {
+                next: next,
+                trial: trial,
+                score: score,
+                settings: last,
+            };
+        };
+        if (i == 0) | (t.score < score) {
+            trial = i;
+            score = t.score;
+            best = last;
+        }
+        at = place;
+        i += 1;
+    }
+    Best {
+        next: Outcome::Value(at),
+        trial: trial,
+        score: score,
+        settings: best,
+    }
+}
