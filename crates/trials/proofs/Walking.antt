@@ -246,10 +246,12 @@ module _ {r : List ℕ} {m i at next n k score : ℕ} {last s e : Settings} (w :
       walked-stays (eqb-false i 0 (none .0)) (ltb-false n score (none .1))
 
 -- the same, where the best is known by equations
-pub walked-by : {r : List ℕ} {m i at k k′ score score′ : ℕ} {last e e′ : Settings} → k′ ≡ k → score′ ≡ score → e′ ≡ e → Walked r m i at last k score e
-    → Walked r m i at last k′ score′ e′
-walked-by {r} {m} {i} {at} {k} {k′} {score} {score′} {last} {e} {e′} p q f w =
-    subst (λ (x : ℕ). Walked r m i at last x score′ e′) (sym p) (subst (λ (x : ℕ). Walked r m i at last k x e′) (sym q) (subst (λ (x : Settings). Walked r m i at last k score x) (sym f) w))
+pub walked-by : {r : List ℕ} {m i at k k′ score score′ : ℕ} {last last′ e e′ : Settings} → last′ ≡ last → k′ ≡ k → score′ ≡ score → e′ ≡ e
+    → Walked r m i at last k score e
+    → Walked r m i at last′ k′ score′ e′
+walked-by {r} {m} {i} {at} {k} {k′} {score} {score′} {last} {last′} {e} {e′} l p q f w =
+    subst (λ (x : Settings). Walked r m i at x k′ score′ e′) (sym l)
+    (subst (λ (x : ℕ). Walked r m i at last x score′ e′) (sym p) (subst (λ (x : ℕ). Walked r m i at last k x e′) (sym q) (subst (λ (x : Settings). Walked r m i at last k score x) (sym f) w)))
 
 -- a trial that is not there ends the reading
 pub no-trials : {r : List ℕ} {n p : ℕ} {o : Outcome} (m k score : ℕ) (e : Settings) → o ≡ Refused n p → Fault r n p → TrialsRead r m o k score e

@@ -25,6 +25,14 @@ pub struct Best {
     pub settings: Settings,
 }
 
+// The settings that matter while the trials are read: where trial 0 starts, where the last trial
+// ended, and where the best so far ended.
+struct Ends {
+    start: Settings,
+    last: Settings,
+    best: Settings,
+}
+
 // The trial at a place, played from s.
 fn trial_at(r: &[u8], at: usize, s: Settings) -> Trial
     requires { ⌜ settingsInRule s ≡ true ⌝ }
@@ -62,36 +70,43 @@ fn trial_at(r: &[u8], at: usize, s: Settings) -> Trial
 pub fn best_of(r: &[u8], count: usize) -> Best
     ensures { λ t. ⌜ BestRead (now (r .entry)) count (t .next) (t .trial) (t .score) (t .settings) ⌝ }
 {
+    let start = Settings::factory();
+    let mut ends = Ends {
+        start: start,
+        last: start,
+        best: start,
+    };
     let mut at: usize = 8;
-    let mut last = Settings::factory();
-    let mut best = last;
     let mut trial: usize = 0;
     let mut score: usize = 0;
     let mut i: usize = 0;
     while i < count {
-        let t = trial_at(r, at, last);
+        let from = ends.last;
+        let t = trial_at(r, at, from);
         let next = t.next;
-        last = t.settings;
+        let ended = t.settings;
         let Outcome::Value(place) = next else {
             return Best {
                 next: next,
                 trial: trial,
                 score: score,
-                settings: last,
+                settings: ended,
             };
         };
+        ends.last = ended;
         if (i == 0) | (t.score < score) {
             trial = i;
             score = t.score;
-            best = last;
+            ends.best = ended;
         }
         at = place;
         i += 1;
     }
+    let settings = ends.best;
     Best {
         next: Outcome::Value(at),
         trial: trial,
         score: score,
-        settings: best,
+        settings: settings,
     }
 }

@@ -1,6 +1,6 @@
 -- `best_of` meets its contract. The loop's invariant: so many of the trials have been read.
 use Prim.Native.Nat.{ℕ, _≤_, _<_, _-_, _+_}
-use mathlib.Core.Path.{_≡_, sym, subst}
+use mathlib.Core.Path.{_≡_, ap, sym, subst}
 use mathlib.Core.Bool.{true}
 use mathlib.Core.Logic.{inl, inr}
 use mathlib.Core.List.{[]}
@@ -14,6 +14,7 @@ use Rattle.settings.proofs.Keeping.{kept-factory, in-rule-of}
 use Rattle.tuning.specs.Refusals.{Begins}
 use Rattle.layout.specs.declared.record.Outcome.{Outcome}
 use Rattle.trials.specs.Found.{TrialRead, TrialIs}
+use Rattle.trials.specs.declared.trial.Ends.{Ends}
 use Rattle.trials.proofs.Walking.{Walked, walked-start, walked-better, walked-other, walked-by, walked-end, no-trials, rule-trial}
 use Rattle.trials.proofs.trial.best_of.Statement.{statement}
 use Rattle.trials.proofs.trial.best_of.Tie as tie
@@ -23,38 +24,52 @@ use Rattle.settings.proofs.settings.Settings.factory.Reads as factory-reads
 use Rattle.trials.proofs.trial.trial_at.Reads as trial-at-reads
 
 abbrev Inv-loop : tie.InvT-loop
-Inv-loop r count at₀ last₀ best₀ trial₀ score₀ i₀ at last best trial score i =
-    (i ≤ count) × (settingsInRule last ≡ true) × (0 < count → Begins r count [] (drop 8 r) → Walked r count i at last trial score best)
+Inv-loop r count ends₀ at₀ trial₀ score₀ i₀ ends at trial score i =
+    (i ≤ count) × (settingsInRule (ends .last) ≡ true) × (0 < count → Begins r count [] (drop 8 r) → Walked r count i at (ends .last) trial score (ends .best))
 
 abbrev μ-loop : tie.MeasureT-loop
-μ-loop r count at₀ last₀ best₀ trial₀ score₀ i₀ at last best trial score i = count - i
+μ-loop r count ends₀ at₀ trial₀ score₀ i₀ ends at trial score i = count - i
 
 -- the trial of a turn
 trial-in : (c : tie.After-next Inv-loop μ-loop)
     → let t = c .before .before .before in
-    let l = t .before .before in
-    TrialIs (now (l .before .before .before .args .r)) (l .loop .at) (l .loop .last) (c .next .given .0 .0) (t .trial-at .result .score) (t .trial-at .result .settings)
+    let l = t .before .before .before in
+    TrialIs (now (l .before .before .before .args .r)) (l .loop .at) (l .loop .ends .last) (c .next .given .0 .0) (t .trial-at .result .score) (t .trial-at .result .settings)
 trial-in c =
     let t = c .before .before .before in
-    let l = t .before .before in
-    subst (λ (o : Outcome). TrialRead (now (l .before .before .before .args .r)) (l .loop .at) (l .loop .last) o (t .trial-at .result .score) (t .trial-at .result .settings)) (c .next .given .1) (t .trial-at .ensures)
+    let l = t .before .before .before in
+    subst (λ (o : Outcome). TrialRead (now (l .before .before .before .args .r)) (l .loop .at) (l .loop .ends .last) o (t .trial-at .result .score) (t .trial-at .result .settings)) (c .next .given .1) (t .trial-at .ensures)
 
 -- one trial more
 again : (c : tie.Joined1 Inv-loop μ-loop)
     → let n = c .before .before .before in
     let t = n .before .before .before in
-    let l = t .before .before in
+    let l = t .before .before .before in
     let a = l .before .before .before .args in
     0 < a .count
     → Begins (now (a .r)) (a .count) [] (drop 8 (now (a .r)))
-    → Walked (now (a .r)) (a .count) (l .loop .i + 1) (n .next .given .0 .0) (t .trial-at .result .settings) (c .if1 .trial) (c .if1 .score) (c .if1 .best)
+    → Walked (now (a .r)) (a .count) (l .loop .i + 1) (n .next .given .0 .0) (c .if1 .ends .last) (c .if1 .trial) (c .if1 .score) (c .if1 .ends .best)
 again c z g =
     let n = c .before .before .before in
-    let l = n .before .before .before .before .before in
+    let l = n .before .before .before .before .before .before in
     let w = l .loop .inv .2 z g in
     elim (c .if1 .came) [
-      | inl q ↦ walked-by (q .2) (q .3) (q .1) (walked-better w (trial-in n) (q .0 .taken))
-      | inr q ↦ walked-by (q .2) (q .3) (q .1) (walked-other w (trial-in n) (q .0 .left))
+      | inl q ↦ walked-by (ap (λ (x : Ends). x .last) (q .1)) (q .2) (q .3) (ap (λ (x : Ends). x .best) (q .1)) (walked-better w (trial-in n) (q .0 .taken))
+      | inr q ↦ walked-by (ap (λ (x : Ends). x .last) (q .1)) (q .2) (q .3) (ap (λ (x : Ends). x .best) (q .1)) (walked-other w (trial-in n) (q .0 .left))
+    ]
+
+rule-by : {a b : Settings} → a ≡ b → settingsInRule b ≡ true → settingsInRule a ≡ true
+rule-by q h = subst (λ (s : Settings). settingsInRule s ≡ true) (sym q) h
+
+-- where the last trial of a turn ended
+ended-in-rule : (c : tie.Joined1 Inv-loop μ-loop) → settingsInRule (c .if1 .ends .last) ≡ true
+ended-in-rule c =
+    let n = c .before .before .before in
+    let l = n .before .before .before .before .before .before in
+    let h = rule-trial (l .loop .inv .1) (trial-in n) in
+    elim (c .if1 .came) [
+      | inl q ↦ rule-by (ap (λ (x : Ends). x .last) (q .1)) h
+      | inr q ↦ rule-by (ap (λ (x : Ends). x .last) (q .1)) h
     ]
 
 factory-requires : tie.Need-factory-requires Inv-loop μ-loop
@@ -72,7 +87,7 @@ loop-holds c =
     )
 
 trial-at-requires : tie.Need-trial-at-requires Inv-loop μ-loop
-trial-at-requires c κs = c .before .loop .inv .1
+trial-at-requires c κs = c .before .before .loop .inv .1
 
 enum-known-next : tie.Need-enum-known-next Inv-loop μ-loop
 enum-known-next c = search needs
@@ -83,31 +98,30 @@ enum-told c = search needs
 returns : tie.Need-returns Inv-loop μ-loop
 returns c z g =
     let t = c .before .before .before in
-    let l = t .before .before in
+    let l = t .before .before .before in
     let a = l .before .before .before .args in
     let w = l .loop .inv .2 z g in
     let none =
-    subst (λ (o : Outcome). TrialRead (now (a .r)) (l .loop .at) (l .loop .last) o (t .trial-at .result .score) (t .trial-at .result .settings)) (c .enum-told .given .1) (t .trial-at .ensures) in
-    no-trials (a .count) _ _ _ (c .enum-told .given .1) (none (a .count) (w .list) (w .begins) (omega (arith, w .count, t .before .loop-test .taken)) (w .place))
+    subst (λ (o : Outcome). TrialRead (now (a .r)) (l .loop .at) (l .loop .ends .last) o (t .trial-at .result .score) (t .trial-at .result .settings)) (c .enum-told .given .1) (t .trial-at .ensures) in
+    no-trials (a .count) _ _ _ (c .enum-told .given .1) (none (a .count) (w .list) (w .begins) (omega (arith, w .count, t .before .before .loop-test .taken)) (w .place))
 
 add-i : tie.Need-add-i Inv-loop μ-loop
 add-i c =
     let t = c .before .before .before .before .before .before in
-    omega (arith, t .before .loop-test .taken, t .before .before .before .before .before .fits .count)
+    omega (arith, t .before .before .loop-test .taken, t .before .before .before .before .before .before .fits .count)
 
 loop-less : tie.Need-loop-less Inv-loop μ-loop
 loop-less c =
     let t = c .before .before .before .before .before .before in
-    omega (arith, t .before .loop-test .taken)
+    omega (arith, t .before .before .loop-test .taken)
 
 loop-again : tie.Need-loop-again Inv-loop μ-loop
 loop-again c =
-    let n = c .before .before .before in
-    let t = n .before .before .before in
-    (omega (arith, t .before .loop-test .taken), rule-trial (t .before .before .loop .inv .1) (trial-in n), again c)
+    let t = c .before .before .before .before .before .before in
+    (omega (arith, t .before .before .loop-test .taken), ended-in-rule c, again c)
 
 returns-2 : tie.Need-returns-2 Inv-loop μ-loop
-returns-2 c z g = walked-end (c .before .loop .inv .2 z g) (omega (arith, c .before .loop .inv .0, c .loop-test .left)) z
+returns-2 c z g = walked-end (c .before .before .loop .inv .2 z g) (omega (arith, c .before .before .loop .inv .0, c .before .loop-test .left)) z
 
 pub best-of-spec : {M : Type 1} → statement M
 best-of-spec =
