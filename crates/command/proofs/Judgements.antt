@@ -8,13 +8,13 @@ use lib.Dec.{eqb, ltb}
 use borrow.Author.Tests.{eqb-true}
 use lib.ListN.{length}
 use Rattle.packet.specs.Numbers.{Bytes}
-use Rattle.packet.specs.Packet.{hostRead, whole, last}
+use Rattle.packet.specs.Packet.{hostRead, whole, last, writeResponse}
 use Rattle.packet.proofs.Cases.{cond-cases}
 use Rattle.values.specs.Fields.{splitAll}
 use Rattle.settings.specs.Table.{commandOf, layout, sizeOf, allowed}
 use Rattle.settings.specs.Settings.{blocked}
 use Rattle.values.specs.Values.{commandIn, valuesIn, valueFrom}
-use Rattle.command.specs.Judging.{Transfer, Closed, Opened, Arrived, held, judgeWrite, judgeRead, judgeData, faults, anyFault, judge}
+use Rattle.command.specs.Judging.{Transfer, Closed, Opened, Arrived, held, judgeWrite, judgeRead, judgeData, faults, anyFault, judge, acknowledged, responseType}
 use Rattle.settings.specs.declared.command.Command.{Command}
 use Rattle.settings.specs.declared.command.Found.{Found}
 use Rattle.settings.specs.declared.command.Found.the-variants.{Known, Unknown}
@@ -99,3 +99,10 @@ pub fitting : (mode : ℕ) (t : Transfer) (p : Arrived) → Bytes (held t ++ p .
 unfolding sizeOf
 fitting mode t p b =
     of-judge (λ c v. Fit (layout c) v) mode t p (λ c l _ _. fit-split (layout c) (held t ++ p .body) b (omega arith))
+
+-- acknowledged means answered by a write response
+pub acknowledged-type : (j : Judgement) → eqb (responseType j) writeResponse ≡ acknowledged j
+acknowledged-type (Refuse k) = refl
+acknowledged-type (Hold c) = refl
+acknowledged-type (Write v) = refl
+acknowledged-type (Read c) = refl

@@ -1,5 +1,4 @@
 -- The laws of the command layer, for its own proofs and for the layers above.
-pub mod Examples
 pub mod Judgements
 pub mod Plays
 pub mod Writes

@@ -3,4 +3,3 @@ pub mod Judging
 pub mod Playing
 pub mod Calls
 pub mod Encoding
-pub mod Examples

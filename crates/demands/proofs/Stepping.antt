@@ -13,21 +13,14 @@ use Rattle.writer.specs.Writing.{written}
 use Rattle.packet.specs.declared.receiver.Received.{Received}
 use Rattle.packet.proofs.Framing.{IsPacket}
 use Rattle.packet.proofs.Receiving.{Between, between-packet, one, first-of, too-few}
-use Rattle.command.specs.Judging.{arrived, acknowledged, responseType, response}
+use Rattle.command.specs.Judging.{arrived, acknowledged, response}
 use Rattle.command.specs.Playing.{State, judged, next}
 use Rattle.command.specs.Calls.{Outcome, Waits, Answers, heldIn, judgedIn, carriedOut, responseIn, After, waiting, answered, receiveCall}
 use Rattle.command.specs.declared.judge.Judgement.{Judgement}
-use Rattle.command.specs.declared.judge.Judgement.the-variants.{Refuse, Hold, Write, Read}
 use Rattle.command.specs.declared.controller.Controller.{Controller}
+use Rattle.command.proofs.Judgements.{acknowledged-type}
 use Rattle.command.proofs.Serving.{Ready, not-refused, stays-in-rule}
 use Rattle.demands.proofs.Following.{stateOf, response-same, state-same, part-state}
-
--- a write response is told by its first byte
-acknowledged-type : (j : Judgement) → eqb (responseType j) writeResponse ≡ acknowledged j
-acknowledged-type (Refuse k) = refl
-acknowledged-type (Hold c) = refl
-acknowledged-type (Write v) = refl
-acknowledged-type (Read c) = refl
 
 -- what a call does that completes the packet p: its count, the state afterwards, and whether p was acknowledged
 pub record Takes (c : Controller) (p : List ℕ) (r : After) : Type 0 where

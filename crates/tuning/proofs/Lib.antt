@@ -3,3 +3,4 @@ pub mod Records
 pub mod Reports
 pub mod Refusals
 pub mod Trials
+pub mod Examples

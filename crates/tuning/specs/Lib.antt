@@ -3,3 +3,4 @@ pub mod Records
 pub mod Report
 pub mod Claim
 pub mod Refusals
+pub mod Examples

@@ -1,4 +1,4 @@
--- Examples about the rules: document 01's starred packets, each row of the table at its limits, and each fault alone. Each goes to a fresh factory head.
+-- Examples about the rules: document 01's starred packets and reports, each row of the table at its limits, and each fault alone. Packets go to a fresh factory head.
 use Prim.Native.Nat.{ℕ}
 use mathlib.Core.Bool.{Bool, true, false, not, _&&_}
 use mathlib.Core.List.{List, [], _∷_, _++_}
@@ -20,10 +20,11 @@ use Rattle.settings.specs.declared.command.Command.the-variants.{
   PatternSequence,
   SequenceRun,
 }
 use Rattle.command.specs.Judging.{codesOf}
 use Rattle.command.specs.Playing.{State, from, judged, next, responses, play, clean}
 use Rattle.command.specs.declared.judge.Judgement.{Judgement}
 use Rattle.command.specs.declared.judge.Judgement.the-variants.{Refuse, Hold, Write, Read}
+use Rattle.tuning.specs.Report.{sameList, Verdict, Accepted, Refused, verdict}
 
 pub data Example : Type 0 where
   -- bytes, and all that the head answers
@@ -37,12 +38,10 @@ pub data Example : Type 0 where
   -- a command's values that are allowed, and some that are not
   Allows : Command → List ℕ → Example
   Forbids : Command → List ℕ → Example
-
-unfoldable pub sameList : List ℕ → List ℕ → Bool
-sameList [] [] = true
-sameList [] (y ∷ ys) = false
-sameList (x ∷ xs) [] = false
-sameList (x ∷ xs) (y ∷ ys) = eqb x y && sameList xs ys
+  -- a report that is accepted, with its trial and score
+  Accepts : List ℕ → ℕ → ℕ → Example
+  -- a report that is refused, with the number and the place
+  Refuses : List ℕ → ℕ → ℕ → Example
 
 unfoldable pub joinedAll : List (List ℕ) → List ℕ
 joinedAll [] = []
@@ -60,6 +59,15 @@ lastDraws a [] = []
 lastDraws a (p ∷ []) = codesIn (judged a p)
 lastDraws a (p ∷ q ∷ ps) = lastDraws (next a p) (q ∷ ps)
 
+-- what a verdict says
+unfoldable pub isYes : Verdict → ℕ → ℕ → Bool
+isYes (Accepted k n s) k′ n′ = eqb k k′ && eqb n n′
+isYes (Refused n p) k′ n′ = false
+
+unfoldable pub isNo : Verdict → ℕ → ℕ → Bool
+isNo (Accepted k n s) n′ p′ = false
+isNo (Refused n p) n′ p′ = eqb n n′ && eqb p p′
+
 unfoldable pub holds : Example → Bool
 holds (Answers b r) = sameList (joinedAll (responses (from factory) (packets b))) r
 holds (Leaves b c v) = sameList (valuesOf c (play factory b .settings)) v
@@ -68,6 +76,8 @@ holds (Cleans b true) = clean factory b
 holds (Cleans b false) = not (clean factory b)
 holds (Allows c v) = allowed c v
 holds (Forbids c v) = not (allowed c v)
+holds (Accepts r k n) = isYes (verdict r) k n
+holds (Refuses r n p) = isNo (verdict r) n p
 
 unfoldable pub hold : List Example → Bool
 hold [] = true
@@ -87,6 +97,25 @@ starred =
     ∷ Answers (0x02 ∷ 0x01 ∷ 0x03 ∷ 0x01 ∷ 0x00 ∷ 0x00 ∷ 0x07 ∷ 0x02 ∷ 0x01 ∷ 0x03 ∷ 0x03 ∷ 0x01 ∷ 0x00 ∷ 0x05 ∷ 0x0F ∷ []) (0x03 ∷ 0x01 ∷ 0x03 ∷ 0x00 ∷ 0x00 ∷ 0x00 ∷ 0x07 ∷ 0x03 ∷ 0x01 ∷ 0x03 ∷ 0x00 ∷ 0x00 ∷ 0x00 ∷ 0x07 ∷ [])
     ∷ Leaves (0x02 ∷ 0x01 ∷ 0x03 ∷ 0x01 ∷ 0x00 ∷ 0x00 ∷ 0x07 ∷ 0x02 ∷ 0x01 ∷ 0x03 ∷ 0x03 ∷ 0x01 ∷ 0x00 ∷ 0x05 ∷ 0x0F ∷ []) TestPattern (5 ∷ [])
     ∷ Leaves (0x02 ∷ 0x01 ∷ 0x04 ∷ 0x00 ∷ 0x06 ∷ 0x00 ∷ 0x00 ∷ 0x04 ∷ 0x12 ∷ 0x01 ∷ 0x12 ∷ 0x01 ∷ 0x37 ∷ []) LedCurrent (1024 ∷ 274 ∷ 274 ∷ [])
+    ∷ []
+
+-- The starred reports of document 01: two trials, of which the second is the better one, and what ships.
+abbrev pub twoTrials : List ℕ
+twoTrials =
+    (0x04 ∷ 0x00 ∷ 0x01 ∷ 0x00 ∷ 0x01 ∷ 0x00 ∷ 0x02 ∷ 0x00 ∷ [])
+    ++ (0x0C ∷ 0x00 ∷ 0x02 ∷ 0x00 ∷ 0x0A ∷ 0x00 ∷ 0x00 ∷ 0x00 ∷ 0x02 ∷ 0x01 ∷ 0x03 ∷ 0x00 ∷ 0x01 ∷ 0x00 ∷ 0x03 ∷ 0x0A ∷ [])
+    ++ (0x0C ∷ 0x00 ∷ 0x02 ∷ 0x00 ∷ 0x07 ∷ 0x00 ∷ 0x00 ∷ 0x00 ∷ 0x02 ∷ 0x01 ∷ 0x01 ∷ 0x00 ∷ 0x01 ∷ 0x00 ∷ 0x01 ∷ 0x06 ∷ [])
+    ++ (0x02 ∷ 0x00 ∷ 0x03 ∷ 0x00 ∷ 0x01 ∷ 0x00 ∷ [])
+
+abbrev pub reports : List Example
+reports =
+    Accepts
+    (twoTrials ++ (0x10 ∷ 0x00 ∷ 0x04 ∷ 0x00 ∷ []) ++ (0x02 ∷ 0x01 ∷ 0x03 ∷ 0x00 ∷ 0x01 ∷ 0x00 ∷ 0x03 ∷ 0x0A ∷ []) ++ (0x02 ∷ 0x01 ∷ 0x01 ∷ 0x00 ∷ 0x01 ∷ 0x00 ∷ 0x01 ∷ 0x06 ∷ []))
+    1
+    7
+    ∷ Refuses (twoTrials ++ (0x08 ∷ 0x00 ∷ 0x04 ∷ 0x00 ∷ []) ++ (0x02 ∷ 0x01 ∷ 0x01 ∷ 0x00 ∷ 0x01 ∷ 0x00 ∷ 0x01 ∷ 0x06 ∷ [])) 19 46
+    -- no bytes at all
+    ∷ Refuses [] 11 0
     ∷ []
 
 -- The rows of the table, at their limits and just past them.
@@ -205,4 +234,4 @@ acknowledgements =
 
 -- the table
 abbrev pub examples : List Example
-examples = starred ++ (rows ++ (faultsAlone ++ (transfers ++ acknowledgements)))
+examples = starred ++ (reports ++ (rows ++ (faultsAlone ++ (transfers ++ acknowledgements))))
