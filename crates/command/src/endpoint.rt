@@ -68,13 +68,14 @@ pub fn receive(c: Controller, input: &[u8], out: &mut [u8]) -> Step
         × (r .controller ≡ receiveCall c (now (input .entry)) (now (out .entry)) .controller)
         × (now (out .exit) ≡ receiveCall c (now (input .entry)) (now (out .entry)) .output) ⌝ }
 {
+    let ruled = c.in_rule();
     if out.len() < 64 {
         return Step {
             controller: c,
             answer: Answer::ShortOutput,
         };
     }
-    if !c.in_rule() {
+    if !ruled {
         return Step {
             controller: c,
             answer: Answer::OutOfRule,

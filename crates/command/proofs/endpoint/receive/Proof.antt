@@ -45,8 +45,8 @@ in-rule-requires c κs = search needs
 returns-2 : tie.Need-returns-2
 unfolding receiveCall
 returns-2 c =
-    let e = le-ltb _ _ (c .before .before .if1 .left) in
-    let f = sym (c .before .in-rule .ensures) ∙ not-true (c .before .in-rule .result) (c .if2 .taken) in
+    let e = le-ltb _ _ (c .before .if1 .left) in
+    let f = sym (c .before .before .in-rule .ensures) ∙ not-true (c .before .before .in-rule .result) (c .if2 .taken) in
     (rw (e, f), rw (e, f), rw (e, f))
 
 held-requires : tie.Need-held-requires
@@ -60,7 +60,7 @@ returns-3 c =
     let t = c .before .before .before in
     let q = t .before .before .before .before .before in
     let a = q .before .before .before .before .before .args in
-    let w = waits (a .c) (now (a .input)) (now (a .out)) (q .before .before .if1 .left) (sym (q .before .in-rule .ensures) ∙ not-false (q .before .in-rule .result) (q .if2 .left))
+    let w = waits (a .c) (now (a .input)) (now (a .out)) (q .before .if1 .left) (sym (q .before .before .in-rule .ensures) ∙ not-false (q .before .before .in-rule .result) (q .if2 .left))
     (t .receive .ensures ∙ ap (λ (n : ℕ). receiving (a .c .receiver) n (now (a .input))) (t .before .held .ensures)) (not-true (t .receive .result .complete) (c .if3 .taken)) in
     (sym (ap (λ (x : After). x .answer) w), sym (ap (λ (x : After). x .controller) w), sym (ap (λ (x : After). x .output) w))
 
@@ -68,7 +68,7 @@ complete-requires : tie.Need-complete-requires
 complete-requires c κs =
     let q = c .before .before .before .before .before .before .before .before .before in
     let a = q .before .before .before .before .before .args in
-    (rule-parts (a .c) (sym (q .before .in-rule .ensures) ∙ not-false (q .before .in-rule .result) (q .if2 .left)) .transfer, search needs)
+    (rule-parts (a .c) (sym (q .before .before .in-rule .ensures) ∙ not-false (q .before .before .in-rule .result) (q .if2 .left)) .transfer, search needs)
 
 same-length : tie.Need-same-length
 same-length c = search needs
@@ -79,7 +79,7 @@ returns-4 c =
     let t = k .before .before .before .before .before in
     let q = t .before .before .before .before .before in
     let a = q .before .before .before .before .before .args in
-    let w = answers (a .c) (now (a .input)) (now (a .out)) (q .before .before .if1 .left) (sym (q .before .in-rule .ensures) ∙ not-false (q .before .in-rule .result) (q .if2 .left))
+    let w = answers (a .c) (now (a .input)) (now (a .out)) (q .before .if1 .left) (sym (q .before .before .in-rule .ensures) ∙ not-false (q .before .before .in-rule .result) (q .if2 .left))
     (t .receive .ensures ∙ ap (λ (n : ℕ). receiving (a .c .receiver) n (now (a .input))) (t .before .held .ensures)) (not-false (t .receive .result .complete) (k .before .before .if3 .left)) in
     let e = k .complete .ensures in
     (e .0 ∙ sym (ap (λ (x : After). x .answer) w), e .1 ∙ sym (ap (λ (x : After). x .controller) w), e .2 ∙ sym (ap (λ (x : After). x .output) w))
@@ -87,4 +87,4 @@ returns-4 c =
 pub receive-spec : {M : Type 1} → statement M
 receive-spec =
     tie.close
-    (tie.spec returns in-rule-requires returns-2 held-requires receive-requires returns-3 complete-requires same-length returns-4)
+    (tie.spec in-rule-requires returns returns-2 held-requires receive-requires returns-3 complete-requires same-length returns-4)
