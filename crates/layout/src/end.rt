@@ -2,12 +2,13 @@
 use crate::record::Outcome;
 use crate::record::record_at;
 use crate::record::refusal;
-ghost use Rattle.layout.specs.Found.{WinnerRead};
+ghost use mathlib.Core.Path.{_≡_};
+ghost use Rattle.layout.specs.Found.{outOf, winnerAt};
 
 // The winner. So many trials were read up to this place, of which `best` is the first of the
 // lowest-scored.
 pub fn winner_of(r: &[u8], at: usize, count: usize, best: usize) -> Outcome
-    ensures { λ o. ⌜ WinnerRead (now (r .entry)) at count best o ⌝ }
+    ensures { λ o. ⌜ outOf o ≡ winnerAt (now (r .entry)) at count best ⌝ }
 {
     let due = record_at(r, at, 3);
     let Outcome::Value(n) = due else {

@@ -2,11 +2,13 @@
 use crate::record::Outcome;
 use crate::record::record_at;
 use crate::record::refusal;
-ghost use Rattle.layout.specs.Found.{HeadRead};
+ghost use mathlib.Core.Path.{_≡_};
+ghost use Rattle.tuning.specs.Report.{readHead};
+ghost use Rattle.layout.specs.Found.{outOf};
 
 // The trial count.
 pub fn count_of(r: &[u8]) -> Outcome
-    ensures { λ o. ⌜ HeadRead (now (r .entry)) o ⌝ }
+    ensures { λ o. ⌜ outOf o ≡ readHead (now (r .entry)) ⌝ }
 {
     if 60000 < r.len() {
         return refusal(10, 0);

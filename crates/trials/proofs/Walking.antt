@@ -1,36 +1,33 @@
 -- The trials one after the other: what the code has read of them at each turn.
-use Prim.Native.Nat.{ℕ, zero, suc, _+_, _*_, _-_, _^_, _<_, _≤_}
+use Prim.Native.Nat.{ℕ, zero, suc, _+_, _*_, _-_, _<_, _≤_}
 use mathlib.Core.Path.{_≡_, refl, ap, ap₂, sym, _∙_, subst}
-use mathlib.Core.Bool.{Bool, true, false, cond, _||_}
-use mathlib.Core.List.{List, [], _∷_, _++_}
+use mathlib.Core.Bool.{Bool, true, false, _||_}
+use mathlib.Core.List.{List, [], _∷_, _++_, append-assoc, append-nil}
 use native.Mathlib.Omega.{arith}
 use native.Mathlib.Numerals.{add-one}
-use lib.Dec.{eqb, ltb}
+use native.Mathlib.Nat.{zero-add, add-zero}
+use lib.Dec.{eqb, leb, ltb}
 use lib.ListN.{length, getD, take, drop, length-append, length-drop}
 use lib.Seq.{drop-drop, drop-cons}
-use borrow.Author.Tests.{eqb-true, eqb-false, ltb-true, ltb-false}
-use Rattle.packet.specs.Numbers.{valueOf, bytesOf, Bytes}
+use borrow.Author.Tests.{le-leb, lt-leb, eqb-true, eqb-false, ltb-true, ltb-false}
+use Rattle.packet.specs.Numbers.{valueOf}
 use Rattle.packet.specs.Stream.{packets}
 use Rattle.packet.proofs.Cases.{bool-cases}
-use Rattle.packet.proofs.Numbers.{bytes-drop, length-bytes}
 use Rattle.settings.specs.Settings.{factory, settingsInRule}
 use Rattle.settings.specs.declared.settings.Settings.{Settings}
-use Rattle.settings.proofs.Keeping.{Kept, kept-by, kept-factory, in-rule-of}
+use Rattle.settings.proofs.Keeping.{Kept, kept-by, in-rule-of}
 use Rattle.command.specs.Judging.{arrived, judge}
 use Rattle.command.specs.Playing.{State, from, judged, next, after, play}
 use Rattle.command.proofs.Judgements.{sound}
 use Rattle.command.proofs.Plays.{kept-judgement}
-use Rattle.tuning.specs.Records.{reading}
-use Rattle.tuning.specs.Report.{Trial, scoreAt, endFrom}
-use Rattle.tuning.specs.Claim.{recordOf, trialRecords}
-use Rattle.tuning.specs.Refusals.{Begins, Due, More, Fault, F13-2}
-use Rattle.tuning.proofs.Reports.{bytes-back, value-small, begins-more, length-more, length-record}
-use Rattle.tuning.proofs.Trials.{lowest-stays, lowest-new, score-front, score-last, endAll, end-front, end-last, end-all}
-use Rattle.layout.specs.Found.{pieceOf}
+use Rattle.tuning.specs.Records.{Out, Bad, Good, _>>=_, _>>_, need, Piece, reading}
+use Rattle.tuning.specs.Report.{Trial, Trials, readTrials, scoreAt, endFrom}
+use Rattle.tuning.proofs.Flat.{bind-bind}
+use Rattle.tuning.proofs.Trials.{onto, lowest-stays, lowest-new, score-front, score-last, endAll, end-front, end-last, end-all}
 use Rattle.layout.specs.declared.record.Outcome.{Outcome}
 use Rattle.layout.specs.declared.record.Outcome.the-variants.{Value, Refused}
-use Rattle.layout.proofs.Steps.{wordAt, word-of, take-parts, part-length, found, missed}
-use Rattle.trials.specs.Found.{TrialIs, TrialRead, First, TrialsAre, TrialsRead}
+use Rattle.layout.proofs.Steps.{wordAt, word-of, part-length, part-front, part-back}
+use Rattle.trials.specs.Found.{before, TrialIs, TrialRead, First, BestOf}
 
 -- the number in the four bytes at a place
 abbrev pub longAt : List ℕ → ℕ → ℕ
@@ -51,59 +48,53 @@ value-four d at h =
       add-one,
     ) (omega arith)
 
-module _ (r : List ℕ) (b : Bytes r) where
-  four-bytes : (at : ℕ) → at + 4 ≤ length r → bytesOf 4 (longAt r at) ≡ take 4 (drop at r)
-  four-bytes at h =
-      ap (bytesOf 4) (sym (value-four r at h)) ∙ bytes-back 4 (drop at r) (bytes-drop at r b) (omega (arith, length-drop at r))
-
-  four-small : (at : ℕ) → at + 4 ≤ length r → longAt r at < 2 ^ 32
-  four-small at h = rw (value-four r at h) at (value-small 4 (drop at r) (bytes-drop at r b) (omega (arith, length-drop at r)))
-
 -- the trial at a place
-module _ (r : List ℕ) (b : Bytes r) (at n : ℕ) (l : at + 4 + n ≤ length r) (e : pieceOf r at (Value n) ≡ reading 2 at (drop at r)) where
-  pub trial-13 : n < 4 → (m : ℕ) (ts : List Trial) → Begins r m ts (drop at r) → length ts < m → at ≡ 8 + length (trialRecords ts) → Fault r 13 at
-  trial-13 h m ts g c a =
-      subst (λ (x : ℕ). Fault r 13 x) (sym a)
-      (F13-2 m ts (take n (drop (at + 4) r)) (drop (at + 4 + n) r) (subst (λ (x : List ℕ). Begins r m ts x) (found r b 2 at n e) g) c
-      (omega (arith, part-length n (at + 4) r l)))
+pub trial-missed : (r : List ℕ) (at : ℕ) {n p : ℕ} → reading 2 at (drop at r) ≡ Bad n p → (m : ℕ) → readTrials (suc m) at (drop at r) ≡ Bad n p
+unfolding readTrials _>>=_
+trial-missed r at e m = rw e
 
-  trial-laid : (k : ℕ) → n ≡ 4 + k → drop at r ≡ recordOf 2 (bytesOf 4 (longAt r (at + 4)) ++ take k (drop (at + 8) r)) ++ drop (at + 4 + n) r
-  trial-laid k h =
-      let p : at + 4 + 4 ≡ at + 8 = omega arith in
-      let body : take n (drop (at + 4) r) ≡ bytesOf 4 (longAt r (at + 4)) ++ take k (drop (at + 8) r) =
-      ap (λ (x : ℕ). take x (drop (at + 4) r)) h
-      ∙ take-parts 4 k (drop (at + 4) r)
-      ∙ ap₂ (λ (x y : List ℕ). x ++ y) (sym (four-bytes r b (at + 4) (omega arith))) (ap (take k) (drop-drop 4 (at + 4) r ∙ ap (λ (x : ℕ). drop x r) p)) in
-      found r b 2 at n e ∙ ap (λ (x : List ℕ). recordOf 2 x ++ drop (at + 4 + n) r) body
+module _ (r : List ℕ) (at n : ℕ) (l : at + 4 + n ≤ length r)
+    (e : reading 2 at (drop at r) ≡ Good (record { body = take n (drop 4 (drop at r)); left = drop (4 + n) (drop at r) })) where
+  body : List ℕ
+  body = take n (drop 4 (drop at r))
 
-  pub trial-is : {low high : ℕ} {s e : Settings} → 4 ≤ n → low ≡ getD r (at + 4) 0 + 256 * getD r (at + 5) 0 → high ≡ getD r (at + 6) 0 + 256 * getD r (at + 7) 0
-      → e ≡ play s (take (at + 4 + n - (at + 8)) (drop (at + 8) r)) .settings
-      → TrialIs r at s (at + 4 + n) (low + 65536 * high) e
-  trial-is {low} {high} {s} {e} h p q f =
-      let k : n ≡ 4 + (at + 4 + n - (at + 8)) = omega arith in
+  body-is : body ≡ take n (drop (at + 4) r)
+  unfolding body
+  body-is = ap (take n) (drop-drop 4 at r)
+
+  body-long : length body ≡ n
+  body-long = ap length body-is ∙ part-length n (at + 4) r l
+
+  pub trial-13 : n < 4 → (m : ℕ) → readTrials (suc m) at (drop at r) ≡ Bad 13 at
+  unfolding readTrials need _>>=_ body
+  trial-13 h m = rw (e, lt-leb 4 (length body) (omega (arith, body-long)))
+
+  -- it stands in front of the trials behind it
+  reads-more : 4 ≤ n → {score : ℕ} {bytes : List ℕ} → valueOf (take 4 body) ≡ score → drop 4 body ≡ bytes → (m : ℕ)
+      → readTrials (suc m) at (drop at r) ≡ (readTrials m (at + 4 + n) (drop (at + 4 + n) r) >>= λ q. Good (before (record { score = score; bytes = bytes }) q))
+  unfolding readTrials need _>>=_ body
+  reads-more h a b m =
+      let p : at + (4 + n) ≡ at + 4 + n = omega arith in
+      let left : drop (4 + n) (drop at r) ≡ drop (at + 4 + n) r = drop-drop (4 + n) at r ∙ ap (λ (x : ℕ). drop x r) p in
+      rw (e, le-leb 4 (length body) (omega (arith, body-long)), body-long, left, a, b)
+
+  pub trial-is : {low high : ℕ} {s t : Settings} → 4 ≤ n → low ≡ getD r (at + 4) 0 + 256 * getD r (at + 5) 0 → high ≡ getD r (at + 6) 0 + 256 * getD r (at + 7) 0
+      → t ≡ play s (take (at + 4 + n - (at + 8)) (drop (at + 8) r)) .settings
+      → TrialIs r at s (at + 4 + n) (low + 65536 * high) t
+  trial-is {low} {high} {s} {t} h p q f =
+      let k = at + 4 + n - (at + 8) in
+      let nk : n ≡ 4 + k = omega arith in
       let six : at + 6 ≡ at + 4 + 2 = omega arith in
-      let score : low + 65536 * high ≡ longAt r (at + 4) =
-      ap₂ (λ (x y : ℕ). x + 65536 * y) (word-of r (at + 4) (at + 5) p (omega arith)) (word-of r (at + 6) (at + 7) q (omega arith) ∙ ap (wordAt r) six) in
-      record {
-        bytes = take (at + 4 + n - (at + 8)) (drop (at + 8) r);
-        laid = rw score (trial-laid (at + 4 + n - (at + 8)) k);
-        small = rw score (four-small r b (at + 4) (omega arith));
-        starts = omega arith;
-        within = l;
-        ends = f;
-      }
-
--- no trial is there
-pub no-trial : {r : List ℕ} {at n p : ℕ} {o : Outcome} (s : Settings) (score : ℕ) (e : Settings) → o ≡ Refused n p
-    → ((m : ℕ) (ts : List Trial) → Begins r m ts (drop at r) → length ts < m → at ≡ 8 + length (trialRecords ts) → Fault r n p)
-    → TrialRead r at s o score e
-no-trial {r} {at} {n} {p} {o} s score e q f = subst (λ (x : Outcome). TrialRead r at s x score e) (sym q) f
-
-pub trial-missed : (r : List ℕ) → Bytes r → (at n p : ℕ) → pieceOf r at (Refused n p) ≡ reading 2 at (drop at r) → (m : ℕ) (ts : List Trial) → Begins r m ts (drop at r)
-    → length ts < m
-    → at ≡ 8 + length (trialRecords ts)
-    → Fault r n p
-trial-missed r b at n p e m ts g l a = missed r b 2 at n p e (subst (λ (x : ℕ). Due r 2 x (drop at r)) (sym a) (More m ts (drop at r) g l))
+      let eight : at + 4 + 4 ≡ at + 8 = omega arith in
+      let front : take 4 body ≡ take 4 (drop (at + 4) r) =
+      ap (take 4) (body-is ∙ ap (λ (x : ℕ). take x (drop (at + 4) r)) nk) ∙ part-front 4 k (at + 4) r (omega arith) in
+      let back : drop 4 body ≡ take k (drop (at + 8) r) =
+      ap (drop 4) (body-is ∙ ap (λ (x : ℕ). take x (drop (at + 4) r)) nk) ∙ part-back 4 k (at + 4) r (omega arith) ∙ ap (λ (x : ℕ). take k (drop x r)) eight in
+      let score : valueOf (take 4 body) ≡ low + 65536 * high =
+      ap valueOf front
+      ∙ value-four r (at + 4) (omega arith)
+      ∙ sym (ap₂ (λ (x y : ℕ). x + 65536 * y) (word-of r (at + 4) (at + 5) p (omega arith)) (word-of r (at + 6) (at + 7) q (omega arith) ∙ ap (wordAt r) six)) in
+      record { bytes = take k (drop (at + 8) r); reads = reads-more h score back; ends = f }
 
 -- whatever is played, the settings keep the rules
 kept-after : (a : State) (ps : List (List ℕ)) → Kept (a .settings) → Kept (after a ps .settings)
@@ -120,45 +111,61 @@ rule-play s b h = in-rule-of (play s b .settings) (kept-after (from s) (packets 
 pub rule-trial : {r : List ℕ} {at next score : ℕ} {s e : Settings} → settingsInRule s ≡ true → TrialIs r at s next score e → settingsInRule e ≡ true
 rule-trial {r} {at} {next} {score} {s} {e} h t = subst (λ (x : Settings). settingsInRule x ≡ true) (sym (t .ends)) (rule-play s (t .bytes) h)
 
--- i of the m trials have been read: the place after them, where the last ended, and the first of the lowest-scored
-pub record Walked (r : List ℕ) (m i at : ℕ) (last : Settings) (k score : ℕ) (e : Settings) : Type 0 where
+-- i of the trials have been read: the place behind them, where the last ended, and the first of the lowest-scored
+pub record Walked (r : List ℕ) (i at : ℕ) (last : Settings) (k score : ℕ) (e : Settings) : Type 0 where
   pub list : List Trial
-  pub begins : Begins r m list (drop at r)
+  pub reads : (m : ℕ) → readTrials (i + m) 8 (drop 8 r) ≡ (readTrials m at (drop at r) >>= λ q. Good (onto list q))
   pub count : length list ≡ i
-  pub place : at ≡ 8 + length (trialRecords list)
   pub ended : last ≡ endAll factory list
-  pub best : 0 < i → First list k score e
+  pub best : First list k score e
 
-pub walked-start : (r : List ℕ) (m : ℕ) → Begins r m [] (drop 8 r) → Walked r m 0 8 factory 0 0 factory
-unfolding trialRecords endAll
-walked-start r m g =
+onto-none : (m : Out Trials) → m ≡ (m >>= λ q. Good (onto [] q))
+unfolding _>>=_
+onto-none (Bad n p) = refl
+onto-none (Good q) = refl
+
+onto-more : (ts : List Trial) (t : Trial) (m : Out Trials) → ((m >>= λ q. Good (before t q)) >>= λ q. Good (onto ts q)) ≡ (m >>= λ q. Good (onto (ts ++ (t ∷ [])) q))
+unfolding _>>=_
+onto-more ts t (Bad n p) = refl
+onto-more ts t (Good q) =
+    ap (λ (x : List Trial). Good (record { list = x; at = q .at; left = q .left })) (sym (append-assoc ts (t ∷ []) (q .list)))
+
+first-none : First [] 0 0 factory
+unfolding scoreAt endFrom
+first-none =
+    record {
+      named = λ h. absurd (omega arith);
+      first = record { lowest = λ i h. absurd (omega arith); earlier = λ i h. absurd (omega arith) };
+      scored = refl;
+      ends = refl;
+    }
+
+pub walked-start : (r : List ℕ) → Walked r 0 8 factory 0 0 factory
+unfolding endAll
+walked-start r =
     record {
       list = [];
-      begins = g;
+      reads = λ m. ap (λ (x : ℕ). readTrials x 8 (drop 8 r)) (zero-add m) ∙ onto-none (readTrials m 8 (drop 8 r));
       count = refl;
-      place = refl;
       ended = refl;
-      best = λ h. absurd (omega arith);
+      best = first-none;
     }
 
--- the trial that was read
-abbrev oneOf : {r : List ℕ} {at next n : ℕ} {s e : Settings} → TrialIs r at s next n e → Trial
-oneOf {r} {at} {next} {n} {s} {e} t = record { score = n; bytes = t .bytes }
-
-best-stays : (ts : List Trial) (t : Trial) (k score : ℕ) (e : Settings) → score ≤ t .score → First ts k score e → First (ts ++ (t ∷ [])) k score e
-best-stays ts t k score e l h =
+first-stays : (ts : List Trial) (t : Trial) (k score : ℕ) (e : Settings) → 0 < length ts → score ≤ t .score → First ts k score e → First (ts ++ (t ∷ [])) k score e
+first-stays ts t k score e z l h =
+    let n = h .named z in
     record {
-      named = omega (arith, h .named, length-append ts (t ∷ []));
-      first = lowest-stays ts t k (h .named) (subst (λ (x : ℕ). x ≤ t .score) (h .scored) l) (h .first);
-      scored = h .scored ∙ sym (score-front ts (t ∷ []) k (h .named));
-      ends = h .ends ∙ sym (end-front factory ts (t ∷ []) k (h .named));
+      named = λ _. omega (arith, n, length-append ts (t ∷ []));
+      first = lowest-stays ts t k n (subst (λ (x : ℕ). x ≤ t .score) (h .scored) l) (h .first);
+      scored = h .scored ∙ sym (score-front ts (t ∷ []) k n);
+      ends = h .ends ∙ sym (end-front factory ts (t ∷ []) k n);
     }
 
-best-only : (t : Trial) → First (t ∷ []) 0 (t .score) (play factory (t .bytes) .settings)
+first-only : (t : Trial) → First (t ∷ []) 0 (t .score) (play factory (t .bytes) .settings)
 unfolding scoreAt endFrom
-best-only t =
+first-only t =
     record {
-      named = omega arith;
+      named = λ _. omega arith;
       first =
           record {
             lowest = λ i h. let z : i ≡ 0 = omega arith in rw z (omega arith);
@@ -168,20 +175,20 @@ best-only t =
       ends = refl;
     }
 
-best-new : (ts : List Trial) (t : Trial) (k score : ℕ) (e : Settings) → t .score < score → First ts k score e
+first-new : (ts : List Trial) (t : Trial) (k score : ℕ) (e : Settings) → 0 < length ts → t .score < score → First ts k score e
     → First (ts ++ (t ∷ [])) (length ts) (t .score) (play (endAll factory ts) (t .bytes) .settings)
-best-new ts t k score e l h =
+first-new ts t k score e z l h =
     record {
-      named = omega (arith, length-append ts (t ∷ []));
-      first = lowest-new ts t k (h .named) (subst (λ (x : ℕ). t .score < x) (h .scored) l) (h .first);
+      named = λ _. omega (arith, length-append ts (t ∷ []));
+      first = lowest-new ts t k (h .named z) (subst (λ (x : ℕ). t .score < x) (h .scored) l) (h .first);
       scored = sym (score-last ts t);
       ends = sym (end-last factory ts t);
     }
 
-first-best : (ts : List Trial) (t : Trial) → length ts ≡ 0 → First (ts ++ (t ∷ [])) (length ts) (t .score) (play (endAll factory ts) (t .bytes) .settings)
+first-first : (ts : List Trial) (t : Trial) → length ts ≡ 0 → First (ts ++ (t ∷ [])) (length ts) (t .score) (play (endAll factory ts) (t .bytes) .settings)
 unfolding endAll
-first-best [] t h = best-only t
-first-best (u ∷ ts) t h = absurd (omega arith)
+first-first [] t h = first-only t
+first-first (u ∷ ts) t h = absurd (omega arith)
 
 or-right : (a b : Bool) → a ≡ false → (a || b) ≡ true → b ≡ true
 or-right true b e h = let z : _≡_ {A = ℕ} 0 1 = cc in absurd (omega arith)
@@ -191,78 +198,80 @@ or-none : (a b : Bool) → (a || b) ≡ false → (a ≡ false) × (b ≡ false)
 or-none true b h = let z : _≡_ {A = ℕ} 0 1 = cc in absurd (omega arith)
 or-none false b h = (refl, h)
 
-module _ {r : List ℕ} {m i at next n k score : ℕ} {last s e : Settings} (w : Walked r m i at last k score e) (t : TrialIs r at last next n s) where
+module _ {r : List ℕ} {i at next n k score : ℕ} {last s e : Settings} (w : Walked r i at last k score e) (t : TrialIs r at last next n s) where
+  one : Trial
+  one = record { score = n; bytes = t .bytes }
+
   -- one trial more, whichever is the best then
-  walked-more : (k′ score′ : ℕ) (e′ : Settings) → First (w .list ++ (oneOf t ∷ [])) k′ score′ e′ → Walked r m (i + 1) next s k′ score′ e′
+  walked-more : (k′ score′ : ℕ) (e′ : Settings) → First (w .list ++ (one ∷ [])) k′ score′ e′ → Walked r (i + 1) next s k′ score′ e′
+  unfolding one
   walked-more k′ score′ e′ h =
-      let body = bytesOf 4 n ++ t .bytes in
       record {
-        list = w .list ++ (oneOf t ∷ []);
-        begins = begins-more r m (w .list) (oneOf t) (drop at r) (drop next r) (w .begins) (t .small) (t .laid);
-        count = omega (arith, length-append (w .list) (oneOf t ∷ []), w .count);
-        place =
-            omega (
-              arith,
-              length-more (w .list) (oneOf t),
-              w .place,
-              t .starts,
-              t .within,
-              ap length (t .laid),
-              length-append (recordOf 2 body) (drop next r),
-              length-record 2 body,
-              length-drop at r,
-              length-drop next r,
-            );
-        ended = t .ends ∙ ap (λ (x : Settings). play x (t .bytes) .settings) (w .ended) ∙ sym (end-all factory (w .list) (oneOf t));
-        best = λ _. h;
+        list = w .list ++ (one ∷ []);
+        reads = λ m.
+            let p : i + 1 + m ≡ i + suc m = omega arith in
+            ap (λ (x : ℕ). readTrials x 8 (drop 8 r)) p
+            ∙ w .reads (suc m)
+            ∙ ap (λ (x : Out Trials). x >>= λ q. Good (onto (w .list) q)) (t .reads m)
+            ∙ onto-more (w .list) one (readTrials m next (drop next r));
+        count = omega (arith, length-append (w .list) (one ∷ []), w .count);
+        ended = t .ends ∙ ap (λ (x : Settings). play x (t .bytes) .settings) (w .ended) ∙ sym (end-all factory (w .list) one);
+        best = h;
       }
 
-  walked-stays : (i ≡ 0 → ⊥) → score ≤ n → Walked r m (i + 1) next s k score e
-  walked-stays h l = walked-more k score e (best-stays (w .list) (oneOf t) k score e l (w .best (omega (arith, h))))
-
-  better : First (w .list ++ (oneOf t ∷ [])) (length (w .list)) n (play (endAll factory (w .list)) (t .bytes) .settings) → Walked r m (i + 1) next s i n s
+  better : First (w .list ++ (one ∷ [])) (length (w .list)) n (play (endAll factory (w .list)) (t .bytes) .settings) → Walked r (i + 1) next s i n s
   better h =
       let q : play (endAll factory (w .list)) (t .bytes) .settings ≡ s = sym (t .ends ∙ ap (λ (x : Settings). play x (t .bytes) .settings) (w .ended)) in
       walked-more i n s
-      (subst (λ (x : Settings). First (w .list ++ (oneOf t ∷ [])) i n x) q
-      (subst (λ (x : ℕ). First (w .list ++ (oneOf t ∷ [])) x n (play (endAll factory (w .list)) (t .bytes) .settings)) (w .count) h))
-
-  walked-first : i ≡ 0 → Walked r m (i + 1) next s i n s
-  walked-first z = better (first-best (w .list) (oneOf t) (w .count ∙ z))
-
-  walked-new : n < score → (i ≡ 0 → ⊥) → Walked r m (i + 1) next s i n s
-  walked-new l f = better (best-new (w .list) (oneOf t) k score e l (w .best (omega (arith, f))))
+      (subst (λ (x : Settings). First (w .list ++ (one ∷ [])) i n x) q
+      (subst (λ (x : ℕ). First (w .list ++ (one ∷ [])) x n (play (endAll factory (w .list)) (t .bytes) .settings)) (w .count) h))
 
   -- the first trial, or one that scores below the best so far
-  pub walked-better : (eqb i 0 || ltb n score) ≡ true → Walked r m (i + 1) next s i n s
+  pub walked-better : (eqb i 0 || ltb n score) ≡ true → Walked r (i + 1) next s i n s
+  unfolding one
   walked-better h =
-      bool-cases (eqb i 0) (λ z. walked-first (eqb-true i 0 z)) λ z.
-      walked-new (ltb-true n score (or-right (eqb i 0) (ltb n score) z h)) (eqb-false i 0 z)
+      bool-cases (eqb i 0) (λ z. better (first-first (w .list) one (w .count ∙ eqb-true i 0 z))) λ z.
+      let f : i ≡ 0 → ⊥ = eqb-false i 0 z in
+      better (first-new (w .list) one k score e (omega (arith, w .count, f)) (ltb-true n score (or-right (eqb i 0) (ltb n score) z h)) (w .best))
 
   -- any other
-  pub walked-other : (eqb i 0 || ltb n score) ≡ false → Walked r m (i + 1) next s k score e
+  pub walked-other : (eqb i 0 || ltb n score) ≡ false → Walked r (i + 1) next s k score e
+  unfolding one
   walked-other h =
       let none = or-none (eqb i 0) (ltb n score) h in
-      walked-stays (eqb-false i 0 (none .0)) (ltb-false n score (none .1))
+      let f : i ≡ 0 → ⊥ = eqb-false i 0 (none .0) in
+      walked-more k score e (first-stays (w .list) one k score e (omega (arith, w .count, f)) (ltb-false n score (none .1)) (w .best))
 
--- the same, where the best is known by equations
-pub walked-by : {r : List ℕ} {m i at k k′ score score′ : ℕ} {last last′ e e′ : Settings} → last′ ≡ last → k′ ≡ k → score′ ≡ score → e′ ≡ e
-    → Walked r m i at last k score e
-    → Walked r m i at last′ k′ score′ e′
-walked-by {r} {m} {i} {at} {k} {k′} {score} {score′} {last} {last′} {e} {e′} l p q f w =
-    subst (λ (x : Settings). Walked r m i at x k′ score′ e′) (sym l)
-    (subst (λ (x : ℕ). Walked r m i at last x score′ e′) (sym p) (subst (λ (x : ℕ). Walked r m i at last k x e′) (sym q) (subst (λ (x : Settings). Walked r m i at last k score x) (sym f) w)))
+-- the same, where the settings and the best are known by equations
+pub walked-by : {r : List ℕ} {i at k k′ score score′ : ℕ} {last last′ e e′ : Settings} → last′ ≡ last → k′ ≡ k → score′ ≡ score → e′ ≡ e
+    → Walked r i at last k score e
+    → Walked r i at last′ k′ score′ e′
+walked-by {r} {i} {at} {k} {k′} {score} {score′} {last} {last′} {e} {e′} l p q f w =
+    subst (λ (x : Settings). Walked r i at x k′ score′ e′) (sym l)
+    (subst (λ (x : ℕ). Walked r i at last x score′ e′) (sym p) (subst (λ (x : ℕ). Walked r i at last k x e′) (sym q) (subst (λ (x : Settings). Walked r i at last k score x) (sym f) w)))
+
+-- no trial is there
+pub no-trial : (r : List ℕ) (at : ℕ) {n p : ℕ} {o : Outcome} (s : Settings) (score : ℕ) (e : Settings) → o ≡ Refused n p
+    → ((m : ℕ) → readTrials (suc m) at (drop at r) ≡ Bad n p)
+    → TrialRead r at s o score e
+no-trial r at {n} {p} {o} s score e q f = subst (λ (x : Outcome). TrialRead r at s x score e) (sym q) f
 
 -- a trial that is not there ends the reading
-pub no-trials : {r : List ℕ} {n p : ℕ} {o : Outcome} (m k score : ℕ) (e : Settings) → o ≡ Refused n p → Fault r n p → TrialsRead r m o k score e
-no-trials {r} {n} {p} {o} m k score e q f = subst (λ (x : Outcome). TrialsRead r m x k score e) (sym q) f
+pub walked-missed : {r : List ℕ} {m i at k score n p : ℕ} {last e f : Settings} {o : Outcome} → Walked r i at last k score e → i < m → o ≡ Refused n p
+    → ((x : ℕ) → readTrials (suc x) at (drop at r) ≡ Bad n p)
+    → f ≡ factory
+    → BestOf (readTrials m 8 (drop 8 r)) o 0 0 f
+unfolding _>>=_
+walked-missed {r} {m} {i} {at} {k} {score} {n} {p} {last} {e} {f} {o} w h q g z =
+    let x = m - i - 1 in
+    let s : m ≡ i + suc x = omega arith in
+    subst (λ (y : Out Trials). BestOf y o 0 0 f)
+    (sym (ap (λ (y : ℕ). readTrials y 8 (drop 8 r)) s ∙ w .reads (suc x) ∙ ap (λ (y : Out Trials). y >>= λ t. Good (onto (w .list) t)) (g x)))
+    (q, refl, refl, z)
 
-pub walked-end : {r : List ℕ} {m i at k score : ℕ} {last e : Settings} → Walked r m i at last k score e → i ≡ m → 0 < m → TrialsAre r m at k score e
-walked-end w h z =
-    record {
-      list = w .list;
-      begins = w .begins;
-      count = w .count ∙ h;
-      place = w .place;
-      best = w .best (omega arith);
-    }
+pub walked-end : {r : List ℕ} {m i at k score : ℕ} {last e : Settings} → Walked r i at last k score e → i ≡ m → BestOf (readTrials m 8 (drop 8 r)) (Value at) k score e
+unfolding readTrials _>>=_
+walked-end {r} {m} {i} {at} {k} {score} {last} {e} w h =
+    let s : m ≡ i + 0 = omega arith in
+    subst (λ (y : Out Trials). BestOf y (Value at) k score e) (sym (ap (λ (y : ℕ). readTrials y 8 (drop 8 r)) s ∙ w .reads 0))
+    (refl, subst (λ (x : List Trial). First x k score e) (sym (append-nil (w .list))) (w .best))

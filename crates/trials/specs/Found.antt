@@ -1,53 +1,40 @@
--- What the code reads of the trials: a refusal, or the trials up to a place and the first of the lowest-scored.
-use Prim.Native.Nat.{ℕ, _+_, _^_, _≤_, _<_}
+-- What the code reads of the trials: a refusal, or the place behind them and the first of the lowest-scored.
+use Prim.Native.Nat.{ℕ, suc, _<_}
 use mathlib.Core.Path.{_≡_}
-use mathlib.Core.List.{List, [], _++_}
+use mathlib.Core.List.{List, [], _∷_}
 use lib.ListN.{length, drop}
-use Rattle.packet.specs.Numbers.{bytesOf}
 use Rattle.settings.specs.Settings.{factory}
 use Rattle.settings.specs.declared.settings.Settings.{Settings}
 use Rattle.command.specs.Playing.{play}
-use Rattle.tuning.specs.Report.{Trial, scoreAt, endFrom}
-use Rattle.tuning.specs.Claim.{recordOf, trialRecords, FirstLowest}
-use Rattle.tuning.specs.Refusals.{Begins, Fault}
+use Rattle.tuning.specs.Records.{Out, Bad, Good, _>>=_}
+use Rattle.tuning.specs.Report.{Trial, Trials, readTrials, scoreAt, endFrom}
+use Rattle.tuning.specs.Claim.{FirstLowest}
 use Rattle.layout.specs.declared.record.Outcome.{Outcome}
 use Rattle.layout.specs.declared.record.Outcome.the-variants.{Value, Refused}
 
--- the trial at a place of r, played from s: its score, the place after its record, and the settings that it ended with
+-- one trial in front of those that are read behind it
+abbrev pub before : Trial → Trials → Trials
+before t q = record { list = t ∷ q .list; at = q .at; left = q .left }
+
+-- the trial at a place of r, played from s: the place behind its record, its score, and the settings that it ended with
 pub record TrialIs (r : List ℕ) (at : ℕ) (s : Settings) (next score : ℕ) (e : Settings) : Type 0 where
   pub bytes : List ℕ
-  pub laid : drop at r ≡ recordOf 2 (bytesOf 4 score ++ bytes) ++ drop next r
-  pub small : score < 2 ^ 32
-  pub starts : at ≤ length r
-  pub within : next ≤ length r
+  pub reads : (m : ℕ) → readTrials (suc m) at (drop at r) ≡ (readTrials m next (drop next r) >>= λ q. Good (before (record { score = score; bytes = bytes }) q))
   pub ends : e ≡ play s bytes .settings
 
--- a trial's record is read where one is due
+-- a trial is read, or the refusal that ends the reading of any more
 abbrev pub TrialRead : List ℕ → ℕ → Settings → Outcome → ℕ → Settings → Type 0
 TrialRead r at s (Value next) score e = TrialIs r at s next score e
-TrialRead r at s (Refused n p) score e =
-    (m : ℕ) (ts : List Trial) → Begins r m ts (drop at r) → length ts < m → at ≡ 8 + length (trialRecords ts) → Fault r n p
+TrialRead r at s (Refused n p) score e = (m : ℕ) → readTrials (suc m) at (drop at r) ≡ Bad n p
 
--- of these trials, trial k is the first of the lowest-scored, with this score and these end settings
+-- of these trials, trial k is the first of the lowest-scored, with this score and these end settings; of none it is 0, with factory values
 pub record First (ts : List Trial) (k score : ℕ) (e : Settings) : Type 0 where
-  pub named : k < length ts
+  pub named : 0 < length ts → k < length ts
   pub first : FirstLowest ts k
   pub scored : score ≡ scoreAt ts k
   pub ends : e ≡ endFrom factory ts k
 
--- that many trials stand before this place
-pub record TrialsAre (r : List ℕ) (m next k score : ℕ) (e : Settings) : Type 0 where
-  pub list : List Trial
-  pub begins : Begins r m list (drop next r)
-  pub count : length list ≡ m
-  pub place : next ≡ 8 + length (trialRecords list)
-  pub best : First list k score e
-
--- that many trials are read
-abbrev pub TrialsRead : List ℕ → ℕ → Outcome → ℕ → ℕ → Settings → Type 0
-TrialsRead r m (Value next) k score e = TrialsAre r m next k score e
-TrialsRead r m (Refused n p) k score e = Fault r n p
-
--- the same of a report that begins with kind 1 and counts them
-abbrev pub BestRead : List ℕ → ℕ → Outcome → ℕ → ℕ → Settings → Type 0
-BestRead r m o k score e = 0 < m → Begins r m [] (drop 8 r) → TrialsRead r m o k score e
+-- what the trials that were read are answered with: the place behind them and the first of the lowest-scored, or the refusal, with 0 and factory values
+abbrev pub BestOf : Out Trials → Outcome → ℕ → ℕ → Settings → Type 0
+BestOf (Good q) o k score e = (o ≡ Value (q .at)) × First (q .list) k score e
+BestOf (Bad n p) o k score e = (o ≡ Refused n p) × (k ≡ 0) × (score ≡ 0) × (e ≡ factory)

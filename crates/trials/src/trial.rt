@@ -7,7 +7,9 @@ use settings::Settings;
 ghost use mathlib.Core.Path.{_≡_};
 ghost use mathlib.Core.Bool.{true};
 ghost use Rattle.settings.specs.Settings.{settingsInRule};
-ghost use Rattle.trials.specs.Found.{TrialRead, BestRead};
+ghost use lib.ListN.{drop};
+ghost use Rattle.tuning.specs.Report.{readTrials};
+ghost use Rattle.trials.specs.Found.{TrialRead, BestOf};
 
 // One trial: the place after its record, its score, and the settings that it ended with.
 pub struct Trial {
@@ -17,7 +19,7 @@ pub struct Trial {
 }
 
 // The first of the lowest-scored trials, with its score and the settings that it ended with, and the
-// place after all of them.
+// place after all of them; 0 and factory values with a refusal.
 pub struct Best {
     pub next: Outcome,
     pub trial: usize,
@@ -68,7 +70,7 @@ fn trial_at(r: &[u8], at: usize, s: Settings) -> Trial
 // That many trials, from byte 8 on; trial 0 starts from factory values, each later trial from where
 // the last ended.
 pub fn best_of(r: &[u8], count: usize) -> Best
-    ensures { λ t. ⌜ BestRead (now (r .entry)) count (t .next) (t .trial) (t .score) (t .settings) ⌝ }
+    ensures { λ t. ⌜ BestOf (readTrials count 8 (drop 8 (now (r .entry)))) (t .next) (t .trial) (t .score) (t .settings) ⌝ }
 {
     let start = Settings::factory();
     let mut ends = Ends {
@@ -88,9 +90,9 @@ pub fn best_of(r: &[u8], count: usize) -> Best
         let Outcome::Value(place) = next else {
             return Best {
                 next: next,
-                trial: trial,
-                score: score,
-                settings: ended,
+                trial: 0,
+                score: 0,
+                settings: start,
             };
         };
         ends.last = ended;

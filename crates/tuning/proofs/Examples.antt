@@ -26,6 +26,8 @@ use Rattle.command.specs.Playing.{judged, next, judgements, responses, after, p
 use Rattle.tuning.specs.Records.{_>>=_, need, reading}
 use Rattle.tuning.specs.Report.{
   readTrials,
+  readHead,
+  readEnd,
   readReport,
   scoreAt,
   endFrom,
@@ -42,5 +44,5 @@ use Rattle.tuning.specs.Report.{
 use Rattle.tuning.specs.Examples.{joinedAll, lastDraws, isYes, isNo, holds, hold, examples}
 
 pub examples-hold : T (hold examples)
-unfolding valueOf bytesOf payload sum checksum rightSum sealed packetOf size hasPacket packetsIn packets bytesIn rest find commandOf sizeOf oneOf listed allowed factory blocked valuesAfter store splitAll joinAll dataOf wrongCommand tooLong wrongOrder faultsOf faults anyFault listIf codesOf judgeWrite judgeRead judgeData judge response judged next judgements responses after play allAcknowledged clean sameList joinedAll lastDraws _>>=_ need reading readTrials readReport scoreAt endFrom noneBelow earlierAbove firstLowest every sameSettings checkReport verdictOf verdict isYes isNo holds hold
+unfolding valueOf bytesOf payload sum checksum rightSum sealed packetOf size hasPacket packetsIn packets bytesIn rest find commandOf sizeOf oneOf listed allowed factory blocked valuesAfter store splitAll joinAll dataOf wrongCommand tooLong wrongOrder faultsOf faults anyFault listIf codesOf judgeWrite judgeRead judgeData judge response judged next judgements responses after play allAcknowledged clean sameList joinedAll lastDraws _>>=_ need reading readTrials readHead readEnd readReport scoreAt endFrom noneBelow earlierAbove firstLowest every sameSettings checkReport verdictOf verdict isYes isNo holds hold
 examples-hold = tt

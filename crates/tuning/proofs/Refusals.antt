@@ -15,7 +15,7 @@ use Rattle.packet.proofs.Numbers.{value-bytes, length-bytes}
 use Rattle.settings.specs.Settings.{factory}
 use Rattle.command.specs.Playing.{play, isNil, clean}
 use Rattle.tuning.specs.Records.{Out, Bad, Good, _>>=_, _>>_, need, reading}
-use Rattle.tuning.specs.Report.{Trial, Trials, Report, readTrials, readReport, endFrom, firstLowest, sameSettings, checkReport, Refused, verdictOf, verdict}
+use Rattle.tuning.specs.Report.{Trial, Trials, Report, readTrials, readEnd, endFrom, firstLowest, sameSettings, checkReport, Refused, verdictOf, verdict}
 use Rattle.tuning.specs.Claim.{recordOf, trialRecords, reportOf, Scores, FirstLowest, Ships}
 use Rattle.tuning.specs.Refusals.{
   headOf,
@@ -43,6 +43,7 @@ use Rattle.tuning.specs.Refusals.{
   Long,
   Later,
 }
+use Rattle.tuning.proofs.Flat.{nested, verdict-nested}
 use Rattle.tuning.proofs.Records.{short-body, other-kind}
 use Rattle.tuning.proofs.Reports.{length-record, reading-record, trials-end, run, pass, reading-list, reading-whole, count-bound, length-report, lowest-true, lowest-back, settings-true, clean-true, clean-back, Says, verdict-says}
 use Rattle.tuning.proofs.Trials.{reading-prefix}
@@ -65,24 +66,14 @@ trials-place at (t ∷ ts) =
     trials-place (at + 4 + length body) ts
     ∙ omega (arith, length-append (recordOf 2 body) (trialRecords ts), length-record 2 body)
 
--- the records after the trials
-unfoldable afterTrials : ℕ → Trials → Out Report
-afterTrials n ts = do
-  w ← reading 3 (ts .at) (ts .left)
-  need (eqb (length (w .body)) 2) 13 (ts .at)
-  need (ltb (valueOf (w .body)) n) 16 (ts .at)
-  s ← reading 4 (ts .at + 6) (w .left)
-  need (isNil (s .left)) 20 (ts .at + 10 + length (s .body))
-  Good (record { trials = ts .list; winner = valueOf (w .body); shipping = s .body; place = ts .at })
-
 length-head : (n : ℕ) → length (bytesOf 2 1 ++ bytesOf 2 n) ≡ 4
 length-head n = length-append (bytesOf 2 1) (bytesOf 2 n) ∙ ap₂ _+_ (length-bytes 2 1) (length-bytes 2 n)
 
 -- kind 1 is read, and the trials are next
 to-trials : (n : ℕ) (left : List ℕ) → 0 < n → n < 65536 → length (headOf n ++ left) ≤ 60000 → {o : Out Report}
-    → (readTrials n 8 left >>= afterTrials n) ≡ o
-    → readReport (headOf n ++ left) ≡ o
-unfolding readReport afterTrials
+    → (readTrials n 8 left >>= readEnd n) ≡ o
+    → nested (headOf n ++ left) ≡ o
+unfolding nested readEnd
 to-trials n left z c l {o} h =
     let body = bytesOf 2 1 ++ bytesOf 2 n in
     let lh : length body ≡ 4 = length-head n in
@@ -93,33 +84,33 @@ to-trials n left z c l {o} h =
     (pass (eqb (length body) 4) 13 0 _ (eq-eqb (length body) 4 lh)
     (pass (eqb (valueOf (take 2 body)) 1) 14 0 _ (eq-eqb (valueOf (take 2 body)) 1 one)
     (pass (not (eqb (valueOf (drop 2 body)) 0)) 15 0 _ (ap not (ne-eqb (valueOf (drop 2 body)) 0 (omega arith)))
-    (ap (λ (m : ℕ). readTrials m 8 left >>= afterTrials m) many ∙ h)))))
+    (ap (λ (m : ℕ). readTrials m 8 left >>= readEnd m) many ∙ h)))))
 
 -- the trials are read, and kind 3 is next
 to-winner : (ts : List Trial) (left : List ℕ) → 0 < length ts → length ts < 65536 → Scores ts
     → length (headOf (length ts) ++ (trialRecords ts ++ left)) ≤ 60000
     → {o : Out Report}
-    → afterTrials (length ts) (record { list = ts; at = 8 + length (trialRecords ts); left = left }) ≡ o
-    → readReport (headOf (length ts) ++ (trialRecords ts ++ left)) ≡ o
+    → readEnd (length ts) (record { list = ts; at = 8 + length (trialRecords ts); left = left }) ≡ o
+    → nested (headOf (length ts) ++ (trialRecords ts ++ left)) ≡ o
 to-winner ts left z c s l {o} h =
     to-trials (length ts) (trialRecords ts ++ left) z c l
-    (run (readTrials (length ts) 8 (trialRecords ts ++ left)) (afterTrials (length ts))
+    (run (readTrials (length ts) 8 (trialRecords ts ++ left)) (readEnd (length ts))
     (reading-list ts 8 left s
     (omega (arith, length-append (headOf (length ts)) (trialRecords ts ++ left), length-append (trialRecords ts) left)))
-    (ap (λ (x : ℕ). afterTrials (length ts) (record { list = ts; at = x; left = left })) (trials-place 8 ts) ∙ h))
+    (ap (λ (x : ℕ). readEnd (length ts) (record { list = ts; at = x; left = left })) (trials-place 8 ts) ∙ h))
 
 -- some of the trials are read, and one more is next
 to-more : (n : ℕ) (ts : List Trial) (left : List ℕ) → n < 65536 → Scores ts → length ts < n
     → length (headOf n ++ (trialRecords ts ++ left)) ≤ 60000
     → {x p : ℕ}
     → ((m : ℕ) → readTrials (suc m) (8 + length (trialRecords ts)) left ≡ Bad x p)
-    → readReport (headOf n ++ (trialRecords ts ++ left)) ≡ Bad x p
+    → nested (headOf n ++ (trialRecords ts ++ left)) ≡ Bad x p
 to-more n ts left c s k l {x} {p} h =
     let m : ℕ = n - suc (length ts) in
     let e : n ≡ length ts + suc m = omega arith in
     let z : length (trialRecords ts) ≤ 60000 = omega (arith, length-append (headOf n) (trialRecords ts ++ left), length-append (trialRecords ts) left) in
     to-trials n (trialRecords ts ++ left) (omega arith) c l
-    (stop (readTrials n 8 (trialRecords ts ++ left)) (afterTrials n)
+    (stop (readTrials n 8 (trialRecords ts ++ left)) (readEnd n)
     (ap (λ (y : ℕ). readTrials y 8 (trialRecords ts ++ left)) e
     ∙ reading-prefix ts (suc m) 8 left s z
     ∙ stop (readTrials (suc m) (trials-end 8 ts) left) _
@@ -134,8 +125,8 @@ to-shipping : (ts : List Trial) (k : ℕ) (left : List ℕ) → k < length ts �
     (need (isNil (s .left)) 20 (18 + length (trialRecords ts) + length (s .body))
     >> Good (record { trials = ts; winner = k; shipping = s .body; place = 8 + length (trialRecords ts) })))
     ≡ o
-    → readReport (headOf (length ts) ++ (trialRecords ts ++ (recordOf 3 (bytesOf 2 k) ++ left))) ≡ o
-unfolding afterTrials
+    → nested (headOf (length ts) ++ (trialRecords ts ++ (recordOf 3 (bytesOf 2 k) ++ left))) ≡ o
+unfolding readEnd
 to-shipping ts k left w c s l {o} h =
     let at : ℕ = 8 + length (trialRecords ts) in
     let win : valueOf (bytesOf 2 k) ≡ k = value-bytes 2 k (omega arith) in
@@ -149,20 +140,20 @@ to-shipping ts k left w c s l {o} h =
 
 -- a record that is due and is refused
 due-stop : (r : List ℕ) {kind at : ℕ} {left : List ℕ} {n p : ℕ} → length r ≤ 60000 → Due r kind at left → reading kind at left ≡ Bad n p
-    → readReport r ≡ Bad n p
-unfolding readReport readTrials afterTrials
+    → nested r ≡ Bad n p
+unfolding nested readTrials readEnd
 due-stop r l Head e =
     pass (leb (length r) 60000) 10 0 _ (le-leb (length r) 60000 l) (stop (reading 1 0 r) _ e)
 due-stop r l (More m ts left b k) e =
-    ap readReport (b .joined)
+    ap nested (b .joined)
     ∙ to-more m ts left (b .count) (b .scores) k (subst (λ (x : List ℕ). length x ≤ 60000) (b .joined) l)
     (λ i. stop (reading 2 (8 + length (trialRecords ts)) left) _ e)
 due-stop r l (Winner ts left b z) e =
-    ap readReport (b .joined)
+    ap nested (b .joined)
     ∙ to-winner ts left z (b .count) (b .scores) (subst (λ (x : List ℕ). length x ≤ 60000) (b .joined) l)
     (stop (reading 3 (8 + length (trialRecords ts)) left) _ e)
 due-stop r l (Shipping ts k left b w) e =
-    ap readReport (b .joined)
+    ap nested (b .joined)
     ∙ to-shipping ts k left w (b .count) (b .scores) (subst (λ (x : List ℕ). length x ≤ 60000) (b .joined) l)
     (stop (reading 4 (14 + length (trialRecords ts)) left) _ e)
 
@@ -188,13 +179,13 @@ reading-other kind at other body more o l d =
     (omega (arith, v, length-append (recordOf other body) more, length-record other body))
     (λ e. d (sym u ∙ e))
 
-report-bad : (r : List ℕ) {n p : ℕ} → readReport r ≡ Bad n p → verdict r ≡ Refused n p
-unfolding verdict verdictOf _>>=_
-report-bad r {n} {p} e = rw e
+report-bad : (r : List ℕ) {n p : ℕ} → nested r ≡ Bad n p → verdict r ≡ Refused n p
+unfolding verdictOf _>>=_
+report-bad r {n} {p} e = rw (verdict-nested r, e)
 
-check-bad : (r : List ℕ) {n p : ℕ} (q : Report) → readReport r ≡ Good q → checkReport factory q ≡ Bad n p → verdict r ≡ Refused n p
-unfolding verdict verdictOf _>>=_
-check-bad r {n} {p} q e h = rw (e, h)
+check-bad : (r : List ℕ) {n p : ℕ} (q : Report) → nested r ≡ Good q → checkReport factory q ≡ Bad n p → verdict r ≡ Refused n p
+unfolding verdictOf _>>=_
+check-bad r {n} {p} q e h = rw (verdict-nested r, e, h)
 
 -- Number by number.
 module _ (r : List ℕ) (l : length r ≤ 60000) where
@@ -219,7 +210,7 @@ module _ (r : List ℕ) (l : length r ≤ 60000) where
 
   -- 13, kind 1
   pub head-length : (body more : List ℕ) → r ≡ recordOf 1 body ++ more → (length body ≡ 4 → ⊥) → verdict r ≡ Refused 13 0
-  unfolding readReport
+  unfolding nested
   head-length body more e h =
       report-bad r
       (pass (leb (length r) 60000) 10 0 _ (le-leb (length r) 60000 l)
@@ -230,7 +221,7 @@ module _ (r : List ℕ) (l : length r ≤ 60000) where
   pub other-version : (version count : ℕ) (more : List ℕ) → r ≡ recordOf 1 (bytesOf 2 version ++ bytesOf 2 count) ++ more → version < 65536
       → (version ≡ 1 → ⊥)
       → verdict r ≡ Refused 14 0
-  unfolding readReport
+  unfolding nested
   other-version v n more e b h =
       let body = bytesOf 2 v ++ bytesOf 2 n in
       let lh : length body ≡ 4 = length-append (bytesOf 2 v) (bytesOf 2 n) ∙ ap₂ _+_ (length-bytes 2 v) (length-bytes 2 n) in
@@ -243,7 +234,7 @@ module _ (r : List ℕ) (l : length r ≤ 60000) where
 
   -- 15
   pub no-trials : (more : List ℕ) → r ≡ headOf 0 ++ more → verdict r ≡ Refused 15 0
-  unfolding readReport
+  unfolding nested
   no-trials more e =
       let body = bytesOf 2 1 ++ bytesOf 2 0 in
       let one : valueOf (take 2 body) ≡ 1 = ap valueOf (take-at (bytesOf 2 1) (bytesOf 2 0) 2 (length-bytes 2 1)) ∙ value-bytes 2 1 (omega arith) in
@@ -261,7 +252,7 @@ module _ (r : List ℕ) (l : length r ≤ 60000) where
   unfolding readTrials
   trial-length n ts body more b k h =
       report-bad r
-      (ap readReport (b .joined)
+      (ap nested (b .joined)
       ∙ to-more n ts (recordOf 2 body ++ more) (b .count) (b .scores) k (subst (λ (x : List ℕ). length x ≤ 60000) (b .joined) l)
       (λ i.
       run (reading 2 (8 + length (trialRecords ts)) (recordOf 2 body ++ more)) _
@@ -271,12 +262,12 @@ module _ (r : List ℕ) (l : length r ≤ 60000) where
   -- 13, kind 3
   pub winner-length : (ts : List Trial) (body more : List ℕ) → Begins r (length ts) ts (recordOf 3 body ++ more) → 0 < length ts → (length body ≡ 2 → ⊥)
       → verdict r ≡ Refused 13 (8 + length (trialRecords ts))
-  unfolding afterTrials
+  unfolding readEnd
   winner-length ts body more b z h =
       let at : ℕ = 8 + length (trialRecords ts) in
       let n : length body < 65536 = omega (arith, begins-length b, length-append (recordOf 3 body) more, length-record 3 body) in
       report-bad r
-      (ap readReport (b .joined)
+      (ap nested (b .joined)
       ∙ to-winner ts (recordOf 3 body ++ more) z (b .count) (b .scores) (subst (λ (x : List ℕ). length x ≤ 60000) (b .joined) l)
       (run (reading 3 at (recordOf 3 body ++ more)) _ (reading-record 3 at body more (omega arith) n)
       (fail (eqb (length body) 2) 13 at _ (ne-eqb (length body) 2 h))))
@@ -285,12 +276,12 @@ module _ (r : List ℕ) (l : length r ≤ 60000) where
   pub no-such-trial : (ts : List Trial) (k : ℕ) (more : List ℕ) → Begins r (length ts) ts (recordOf 3 (bytesOf 2 k) ++ more) → 0 < length ts → k < 65536
       → length ts ≤ k
       → verdict r ≡ Refused 16 (8 + length (trialRecords ts))
-  unfolding afterTrials
+  unfolding readEnd
   no-such-trial ts k more b z c h =
       let at : ℕ = 8 + length (trialRecords ts) in
       let win : valueOf (bytesOf 2 k) ≡ k = value-bytes 2 k c in
       report-bad r
-      (ap readReport (b .joined)
+      (ap nested (b .joined)
       ∙ to-winner ts (recordOf 3 (bytesOf 2 k) ++ more) z (b .count) (b .scores) (subst (λ (x : List ℕ). length x ≤ 60000) (b .joined) l)
       (run (reading 3 at (recordOf 3 (bytesOf 2 k) ++ more)) _
       (reading-record 3 at (bytesOf 2 k) more (omega arith) (omega (arith, length-bytes 2 k)))
@@ -307,7 +298,7 @@ module _ (r : List ℕ) (l : length r ≤ 60000) where
       let n : length r ≡ length (reportOf ts k ship) + suc (length more) = ap length e ∙ length-append (reportOf ts k ship) (x ∷ more) in
       let m : length (reportOf ts k ship) ≡ 18 + length (trialRecords ts) + length ship = length-report ts k ship in
       report-bad r
-      (ap readReport f
+      (ap nested f
       ∙ to-shipping ts k left w (omega (arith, count-bound ts)) s (subst (λ (y : List ℕ). length y ≤ 60000) f l)
       (run (reading 4 (14 + length (trialRecords ts)) left) _
       (reading-record 4 (14 + length (trialRecords ts)) ship (x ∷ more) (omega arith) (omega arith))
@@ -315,9 +306,9 @@ module _ (r : List ℕ) (l : length r ≤ 60000) where
 
   -- the report keeps the layout, and is read
   module _ (ts : List Trial) (k : ℕ) (ship : List ℕ) (y : Layout r ts k ship) where
-    read : readReport r ≡ Good (record { trials = ts; winner = k; shipping = ship; place = 8 + length (trialRecords ts) })
+    read : nested r ≡ Good (record { trials = ts; winner = k; shipping = ship; place = 8 + length (trialRecords ts) })
     read =
-        ap readReport (y .laid)
+        ap nested (y .laid)
         ∙ reading-whole ts k ship (y .scores) (y .named) (subst (λ (x : List ℕ). length x ≤ 60000) (y .laid) l)
         ∙ ap (λ (x : ℕ). Good (record { trials = ts; winner = k; shipping = ship; place = x })) (trials-place 8 ts)
 
@@ -358,7 +349,7 @@ module _ (r : List ℕ) (l : length r ≤ 60000) where
 
 -- 10
 pub over-long : (r : List ℕ) → 60000 < length r → verdict r ≡ Refused 10 0
-unfolding readReport
+unfolding nested
 over-long r h = report-bad r (fail (leb (length r) 60000) 10 0 _ (lt-leb (length r) 60000 h))
 
 fault-refused : (r : List ℕ) {n p : ℕ} → length r ≤ 60000 → Fault r n p → verdict r ≡ Refused n p

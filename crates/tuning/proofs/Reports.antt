@@ -30,7 +30,7 @@ use Rattle.tuning.specs.Report.{
   Trials,
   Report,
   readTrials,
-  readReport,
+  readEnd,
   scoreAt,
   endFrom,
   noneBelow,
@@ -46,6 +46,7 @@ use Rattle.tuning.specs.Report.{
   verdictOf,
   verdict,
 }
+use Rattle.tuning.proofs.Flat.{nested, verdict-nested}
 use Rattle.tuning.specs.Refusals.{
   headOf,
   Begins,
@@ -391,8 +392,8 @@ pub after-four : (r : List ℕ) (ts : List Trial) (k : ℕ) (ship left : List �
 after-four r ts k ship [] e s w h = let z : _≡_ {A = ℕ} 0 1 = cc in absurd (omega arith)
 after-four r ts k ship (x ∷ left) e s w h = F20 ts k ship x left e s w
 
-reading-report : (r : List ℕ) → Bytes r → Ends (Refusal r) (Laid r) (readReport r)
-unfolding readReport reportOf trialRecords
+pub reading-report : (r : List ℕ) → Bytes r → Ends (Refusal r) (Laid r) (nested r)
+unfolding nested readEnd reportOf trialRecords
 reading-report r b =
     needs (Refusal r) (Laid r) (leb (length r) 60000) 10 0 _ (λ e. Long (leb-false (length r) 60000 e)) λ e10.
     let short : length r ≤ 60000 = leb-true (length r) 60000 e10 in
@@ -546,10 +547,10 @@ says r (Good p) h =
     }
 
 pub verdict-says : (r : List ℕ) → Bytes r → Says r (verdict r)
-unfolding verdict
 verdict-says r b =
-    says r (readReport r >>= checkReport factory)
-    (then (Refusal r) (Passed r) (readReport r) (checkReport factory) (reading-report r b) (λ n p f. f) (checking r))
+    subst (Says r) (sym (verdict-nested r))
+    (says r (nested r >>= checkReport factory)
+    (then (Refusal r) (Passed r) (nested r) (checkReport factory) (reading-report r b) (λ n p f. f) (checking r)))
 
 -- a report that is accepted keeps the claim
 pub accepted : (r : List ℕ) (k n : ℕ) (s : Settings) → Bytes r → verdict r ≡ Accepted k n s → Claim r k n s
@@ -611,8 +612,8 @@ head-body : ℕ → List ℕ
 head-body n = bytesOf 2 1 ++ bytesOf 2 n
 
 pub reading-whole : (ts : List Trial) (k : ℕ) (ship : List ℕ) → Scores ts → k < length ts → length (reportOf ts k ship) ≤ 60000 →
-    readReport (reportOf ts k ship) ≡ Good (record { trials = ts; winner = k; shipping = ship; place = trials-end 8 ts })
-unfolding readReport reportOf head-body
+    nested (reportOf ts k ship) ≡ Good (record { trials = ts; winner = k; shipping = ship; place = trials-end 8 ts })
+unfolding nested readEnd reportOf head-body
 reading-whole ts k ship s l n =
     let lr : length (reportOf ts k ship) ≡ 18 + length (trialRecords ts) + length ship = length-report ts k ship in
     let cb : 4 * length ts ≤ length (trialRecords ts) = count-bound ts in
@@ -636,11 +637,12 @@ reading-whole ts k ship s l n =
 
 -- a report that keeps the claim is accepted
 pub claimed : (r : List ℕ) (k n : ℕ) (s : Settings) → Claim r k n s → verdict r ≡ Accepted k n s
-unfolding verdict verdictOf checkReport
+unfolding verdictOf checkReport
 claimed r k n s c =
     ap verdict (c .laid)
+    ∙ verdict-nested (reportOf (c .trials) k (c .shipping))
     ∙ ap (verdictOf factory)
-    (run (readReport (reportOf (c .trials) k (c .shipping))) (checkReport factory)
+    (run (nested (reportOf (c .trials) k (c .shipping))) (checkReport factory)
     (reading-whole (c .trials) k (c .shipping) (c .scores) (c .named) (subst (λ (x : List ℕ). length x ≤ 60000) (c .laid) (c .short)))
     (pass (firstLowest (c .trials) k) 17 (trials-end 8 (c .trials)) _ (lowest-back (c .trials) k (c .first))
     (pass (clean factory (c .shipping)) 18 (trials-end 8 (c .trials) + 6) _ (clean-back factory (c .shipping) (c .ships))

@@ -16,16 +16,12 @@ use Rattle.command.specs.Playing.{play}
 use Rattle.tuning.specs.Records.{Out, Bad, Good, _>>=_, _>>_, reading}
 use Rattle.tuning.specs.Report.{Trial, Trials, readTrials, scoreAt, endFrom}
 use Rattle.tuning.specs.Claim.{recordOf, trialRecords, Scores, FirstLowest}
+use Rattle.tuning.proofs.Flat.{bind-bind}
 use Rattle.tuning.proofs.Reports.{trials-end, run, pass, reading-record, length-record}
 
 -- some trials in front of what is still to be read
 abbrev pub onto : List Trial → Trials → Trials
 onto ts r = record { list = ts ++ r .list; at = r .at; left = r .left }
-
-bind-bind : {A B C : Type 0} (m : Out A) (f : A → Out B) (g : B → Out C) → ((m >>= f) >>= g) ≡ (m >>= λ a. f a >>= g)
-unfolding _>>=_
-bind-bind (Bad n p) f g = refl
-bind-bind (Good a) f g = refl
 
 bind-good : (m : Out Trials) → (m >>= λ r. Good (onto [] r)) ≡ m
 unfolding _>>=_

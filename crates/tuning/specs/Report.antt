@@ -39,21 +39,32 @@ readTrials (suc n) at b = do
   r ← readTrials n (at + 4 + length (p .body)) (p .left)
   Good (record { list = record { score = valueOf (take 4 (p .body)); bytes = drop 4 (p .body) } ∷ r .list; at = r .at; left = r .left })
 
--- The layout of a report, its refusals in the order of document 01: 10 first, 11 to 16 record by record, then 20.
-unfoldable pub readReport : List ℕ → Out Report
-readReport r = do
+-- One of kind 1 (version, 2 bytes, 1; trial count, 2 bytes): the count. 10 comes first.
+unfoldable pub readHead : List ℕ → Out ℕ
+readHead r = do
   need (leb (length r) 60000) 10 0
   h ← reading 1 0 r
   need (eqb (length (h .body)) 4) 13 0
   need (eqb (valueOf (take 2 (h .body))) 1) 14 0
   need (not (eqb (valueOf (drop 2 (h .body))) 0)) 15 0
-  ts ← readTrials (valueOf (drop 2 (h .body))) 8 (h .left)
+  Good (valueOf (drop 2 (h .body)))
+
+-- Behind n trials: one of kind 3 (winner, 2 bytes, from 0), one of kind 4 (shipping packets, possibly none), and nothing after.
+unfoldable pub readEnd : ℕ → Trials → Out Report
+readEnd n ts = do
   w ← reading 3 (ts .at) (ts .left)
   need (eqb (length (w .body)) 2) 13 (ts .at)
-  need (ltb (valueOf (w .body)) (valueOf (drop 2 (h .body)))) 16 (ts .at)
+  need (ltb (valueOf (w .body)) n) 16 (ts .at)
   s ← reading 4 (ts .at + 6) (w .left)
   need (isNil (s .left)) 20 (ts .at + 10 + length (s .body))
   Good (record { trials = ts .list; winner = valueOf (w .body); shipping = s .body; place = ts .at })
+
+-- The layout of a report, its refusals in the order of document 01: 10 first, 11 to 16 record by record, then 20. The trials begin at byte 8.
+unfoldable pub readReport : List ℕ → Out Report
+readReport r = do
+  n ← readHead r
+  ts ← readTrials n 8 (drop 8 r)
+  readEnd n ts
 
 -- the score of trial k, from 0
 unfoldable pub scoreAt : List Trial → ℕ → ℕ

@@ -1,20 +1,15 @@
 -- `winner_of` meets its contract.
 use Prim.Native.Nat.{ℕ, _+_, _≤_, _<_}
-use mathlib.Core.Path.{_≡_, refl, sym, _∙_, subst}
+use mathlib.Core.Path.{_≡_, sym, ap, _∙_, subst}
 use mathlib.Core.List.{List}
 use native.Mathlib.Omega.{arith}
 use denote.Ref.{now}
 use lib.ListN.{length, drop}
-use Rattle.packet.specs.Numbers.{Bytes}
-use Rattle.packet.proofs.Numbers.{bytes-at}
-use Rattle.tuning.specs.Records.{reading}
-use Rattle.tuning.specs.Report.{Trial}
-use Rattle.tuning.specs.Claim.{trialRecords}
-use Rattle.tuning.specs.Refusals.{Layout, Fault}
-use Rattle.layout.specs.Found.{pieceOf, endOf, EndRead, Read}
+use Rattle.tuning.specs.Records.{Bad, reading}
+use Rattle.layout.specs.Found.{outOf, pieceOf, endOf}
 use Rattle.layout.specs.declared.record.Outcome.{Outcome}
 use Rattle.layout.specs.declared.record.Outcome.the-variants.{Value, Refused}
-use Rattle.layout.proofs.Steps.{wordAt, word-of, missed, winner-due, winner-13, winner-16, shipping-due, shipping-20, shipping-laid, winner-17}
+use Rattle.layout.proofs.Steps.{wordAt, word-of, end-missed, end-13, end-16, shipping-missed, end-20, end-17, end-winner}
 use borrow.Author.Needs.{needs}
 use Rattle.layout.proofs.end.winner_of.Statement.{statement}
 use Rattle.layout.proofs.end.winner_of.Tie as tie
@@ -24,12 +19,8 @@ use Rattle.layout.proofs.record.record_at.Reads as record-at-reads
 use Rattle.layout.proofs.record.refusal.Reads as refusal-reads
 use Rattle.packet.proofs.word.Reads as word-reads
 
--- the report, whose elements are bytes
 abbrev reportIn : tie.After-shared-slice-known → List ℕ
 reportIn c = now (c .before .args .r)
-
-all-bytes : (c : tie.After-shared-slice-known) → Bytes (reportIn c)
-all-bytes c = bytes-at (reportIn c) (λ i. c .shared-slice-known .given i .fits)
 
 -- what a record's reading gave
 abbrev ReadAt : List ℕ → ℕ → ℕ → Outcome → Type 0
@@ -66,10 +57,6 @@ found-shipping c =
     subst (λ (x : ℕ). ReadAt (reportIn k) 4 x (Value (c .shipping .given .0 .0))) p
     (subst (ReadAt (reportIn k) 4 (at + 4 + e .before .before .due .given .0 .0)) (c .shipping .given .1) (c .before .before .record-at2 .ensures))
 
--- a refusal, known by its number and its place
-no-winner : (r : List ℕ) (j : ℕ) (ts : List Trial) (n p q : ℕ) {o : Outcome} → o ≡ Refused n q → q ≡ p → Fault r n p → EndRead r j ts o
-no-winner r j ts n p q e h f = subst (EndRead r j ts) (sym e) (subst (λ (x : ℕ). Fault r n x) (sym h) f)
-
 record-at-requires : tie.Need-record-at-requires
 record-at-requires c κs = search needs
 
@@ -80,14 +67,12 @@ enum-told : tie.Need-enum-told
 enum-told c = search needs
 
 returns : tie.Need-returns
-returns c ts g =
+returns c =
     let p = c .before .before in
     let k = p .before in
     let a = k .before .args in
     let o = c .enum-told .given in
-    no-winner (reportIn k) (a .best) ts (o .0 .0) (o .0 .1 .0) (o .0 .1 .0) (o .1) refl
-    (missed (reportIn k) (all-bytes k) 3 (a .at) (o .0 .0) (o .0 .1 .0) (subst (ReadAt (reportIn k) 3 (a .at)) (o .1) (p .record-at .ensures) .0)
-    (winner-due (reportIn k) (all-bytes k) (a .at) (a .count) (a .best) ts g))
+    ap outOf (o .1) ∙ sym (end-missed (reportIn k) (a .at) (a .count) (a .best) (sym (subst (ReadAt (reportIn k) 3 (a .at)) (o .1) (p .record-at .ensures) .0)))
 
 add-ship : tie.Need-add-ship
 add-ship c = omega (arith, found-winner (c .before) .1)
@@ -99,13 +84,12 @@ refusal-requires : tie.Need-refusal-requires
 refusal-requires c κs = search needs
 
 returns-2 : tie.Need-returns-2
-returns-2 c ts g =
+returns-2 c =
     let d = c .before .before .before in
     let k = d .before .before .before in
     let a = k .before .args in
     let f = found-winner d in
-    no-winner (reportIn k) (a .best) ts 13 (a .at) (a .at) (c .refusal .ensures) refl
-    (winner-13 (reportIn k) (all-bytes k) (a .at) (a .count) (a .best) ts g (d .due .given .0 .0) (f .1) (f .0) (c .before .if1 .taken))
+    ap outOf (c .refusal .ensures) ∙ sym (end-13 (reportIn k) (a .at) (a .count) (a .best) (d .due .given .0 .0) (f .1) (sym (f .0)) (c .before .if1 .taken))
 
 add-word : tie.Need-add-word
 add-word c = omega (arith, found-winner (c .before .before) .1)
@@ -126,15 +110,14 @@ refusal-requires-2 : tie.Need-refusal-requires-2
 refusal-requires-2 c κs = search needs
 
 returns-3 : tie.Need-returns-3
-returns-3 c ts g =
+returns-3 c =
     let w = c .before .before in
     let e = w .before .before .before in
     let d = e .before .before in
     let k = d .before .before .before in
     let a = k .before .args in
     let f = found-winner d in
-    no-winner (reportIn k) (a .best) ts 16 (a .at) (a .at) (c .refusal2 .ensures) refl
-    (winner-16 (reportIn k) (all-bytes k) (a .at) (a .count) (a .best) ts g (d .due .given .0 .0) (f .1) (f .0) (e .if1 .left) (omega (arith, winner-is w, c .before .if2 .taken)))
+    ap outOf (c .refusal2 .ensures) ∙ sym (end-16 (reportIn k) (a .at) (a .count) (a .best) (d .due .given .0 .0) (f .1) (sym (f .0)) (e .if1 .left) (omega (arith, winner-is w, c .before .if2 .taken)))
 
 record-at-requires-2 : tie.Need-record-at-requires-2
 record-at-requires-2 c κs = search needs
@@ -146,7 +129,7 @@ enum-told-2 : tie.Need-enum-told-2
 enum-told-2 c = search needs
 
 returns-4 : tie.Need-returns-4
-returns-4 c ts g =
+returns-4 c =
     let q = c .before .before in
     let t = q .before in
     let w = t .before in
@@ -159,9 +142,7 @@ returns-4 c ts g =
     let p : a .at + 4 + d .due .given .0 .0 ≡ a .at + 6 = omega (arith, e .if1 .left) in
     let z : ReadAt (reportIn k) 4 (a .at + 6) (Refused (o .0 .0) (o .0 .1 .0)) =
     subst (λ (x : ℕ). ReadAt (reportIn k) 4 x (Refused (o .0 .0) (o .0 .1 .0))) p (subst (ReadAt (reportIn k) 4 (a .at + 4 + d .due .given .0 .0)) (o .1) (q .record-at2 .ensures)) in
-    no-winner (reportIn k) (a .best) ts (o .0 .0) (o .0 .1 .0) (o .0 .1 .0) (o .1) refl
-    (missed (reportIn k) (all-bytes k) 4 (a .at + 6) (o .0 .0) (o .0 .1 .0) (z .0)
-    (shipping-due (reportIn k) (all-bytes k) (a .at) (a .count) (a .best) ts g (d .due .given .0 .0) (f .1) (f .0) (e .if1 .left) (omega (arith, winner-is w, t .if2 .left))))
+    ap outOf (o .1) ∙ sym (shipping-missed (reportIn k) (a .at) (a .count) (a .best) (d .due .given .0 .0) (f .1) (sym (f .0)) (e .if1 .left) (omega (arith, winner-is w, t .if2 .left)) (sym (z .0)))
 
 add-end : tie.Need-add-end
 add-end c =
@@ -177,7 +158,7 @@ refusal-requires-3 : tie.Need-refusal-requires-3
 refusal-requires-3 c κs = search needs
 
 returns-5 : tie.Need-returns-5
-returns-5 c ts g =
+returns-5 c =
     let h = c .before .before .before in
     let t = h .before .before .before in
     let w = t .before in
@@ -189,14 +170,14 @@ returns-5 c ts g =
     let i = found-shipping h in
     let m = h .shipping .given .0 .0 in
     let below : wordAt (reportIn k) (a .at + 4) < a .count = omega (arith, winner-is w, t .if2 .left) in
-    no-winner (reportIn k) (a .best) ts 20 (a .at + 6 + 4 + m) (a .at + 4 + d .due .given .0 .0 + 4 + m) (c .refusal3 .ensures) (omega (arith, e .if1 .left))
-    (shipping-20 (reportIn k) (all-bytes k) (a .at) (a .count) (a .best) ts g (d .due .given .0 .0) (f .1) (f .0) (e .if1 .left) below m (i .1) (i .0) (omega (arith, e .if1 .left, c .before .if3 .taken)))
+    let p : a .at + 4 + d .due .given .0 .0 + 4 + m ≡ a .at + 6 + 4 + m = omega (arith, e .if1 .left) in
+    ap outOf (c .refusal3 .ensures) ∙ ap (Bad 20) p ∙ sym (end-20 (reportIn k) (a .at) (a .count) (a .best) (d .due .given .0 .0) (f .1) (sym (f .0)) (e .if1 .left) below m (i .1) (sym (i .0)) (omega (arith, e .if1 .left, c .before .if3 .taken)))
 
 refusal-requires-4 : tie.Need-refusal-requires-4
 refusal-requires-4 c κs = search needs
 
 returns-6 : tie.Need-returns-6
-returns-6 c ts g =
+returns-6 c =
     let h = c .before .before .before .before in
     let t = h .before .before .before in
     let w = t .before in
@@ -208,11 +189,11 @@ returns-6 c ts g =
     let i = found-shipping h in
     let m = h .shipping .given .0 .0 in
     let below : wordAt (reportIn k) (a .at + 4) < a .count = omega (arith, winner-is w, t .if2 .left) in
-    no-winner (reportIn k) (a .best) ts 17 (a .at) (a .at) (c .refusal4 .ensures) refl
-    (winner-17 (reportIn k) (all-bytes k) (a .at) (a .count) (a .best) ts g (d .due .given .0 .0) (f .1) (f .0) (e .if1 .left) below m (i .1) (i .0) (omega (arith, e .if1 .left, c .before .before .if3 .left)) (λ q. c .before .if4 .taken (winner-is w ∙ q)))
+    ap outOf (c .refusal4 .ensures)
+    ∙ sym (end-17 (reportIn k) (a .at) (a .count) (a .best) (d .due .given .0 .0) (f .1) (sym (f .0)) (e .if1 .left) below m (i .1) (sym (i .0)) (omega (arith, e .if1 .left, c .before .before .if3 .left)) (λ q. c .before .if4 .taken (winner-is w ∙ q)))
 
 returns-7 : tie.Need-returns-7
-returns-7 c ts g =
+returns-7 c =
     let h = c .before .before .before in
     let t = h .before .before .before in
     let w = t .before in
@@ -223,11 +204,8 @@ returns-7 c ts g =
     let f = found-winner d in
     let i = found-shipping h in
     let m = h .shipping .given .0 .0 in
-    let below : wordAt (reportIn k) (a .at + 4) < a .count = omega (arith, winner-is w, t .if2 .left) in (
-      subst (λ (x : ℕ). Layout (reportIn k) ts x (drop (18 + length (trialRecords ts)) (reportIn k))) (sym (winner-is w))
-          (shipping-laid (reportIn k) (all-bytes k) (a .at) (a .count) (a .best) ts g (d .due .given .0 .0) (f .1) (f .0) (e .if1 .left) below m (i .1) (i .0) (omega (arith, e .if1 .left, c .before .if3 .left))),
-      c .if4 .left,
-    )
+    let below : wordAt (reportIn k) (a .at + 4) < a .count = omega (arith, winner-is w, t .if2 .left) in
+    rw (winner-is w) (sym (end-winner (reportIn k) (a .at) (a .count) (a .best) (d .due .given .0 .0) (f .1) (sym (f .0)) (e .if1 .left) below m (i .1) (sym (i .0)) (omega (arith, e .if1 .left, c .before .if3 .left)) (sym (winner-is w) ∙ c .if4 .left)))
 
 pub winner-of-spec : {M : Type 1} → statement M
 winner-of-spec =

@@ -1,18 +1,15 @@
 -- `count_of` meets its contract.
 use Prim.Native.Nat.{ℕ, _+_, _≤_}
-use mathlib.Core.Path.{_≡_, sym, _∙_, subst}
+use mathlib.Core.Path.{_≡_, sym, ap, _∙_, subst}
 use mathlib.Core.List.{List}
 use native.Mathlib.Omega.{arith}
 use denote.Ref.{now}
 use lib.ListN.{length, drop}
-use Rattle.packet.specs.Numbers.{Bytes}
-use Rattle.packet.proofs.Numbers.{bytes-at}
 use Rattle.tuning.specs.Records.{reading}
-use Rattle.tuning.specs.Refusals.{Head, Refusal, Long, Later}
-use Rattle.layout.specs.Found.{pieceOf, endOf, HeadRead}
+use Rattle.layout.specs.Found.{outOf, pieceOf, endOf}
 use Rattle.layout.specs.declared.record.Outcome.{Outcome}
-use Rattle.layout.specs.declared.record.Outcome.the-variants.{Value, Refused}
-use Rattle.layout.proofs.Steps.{missed, head-13, head-14, head-15, head-begins}
+use Rattle.layout.specs.declared.record.Outcome.the-variants.{Value}
+use Rattle.layout.proofs.Steps.{head-long, head-missed, head-13, head-14, head-15, head-count}
 use borrow.Author.Needs.{needs}
 use Rattle.layout.proofs.head.count_of.Statement.{statement}
 use Rattle.layout.proofs.head.count_of.Tie as tie
@@ -22,15 +19,8 @@ use Rattle.layout.proofs.record.record_at.Reads as record-at-reads
 use Rattle.layout.proofs.record.refusal.Reads as refusal-reads
 use Rattle.packet.proofs.word.Reads as word-reads
 
--- the report, whose elements are bytes
 abbrev reportIn : tie.After-shared-slice-known → List ℕ
 reportIn c = now (c .before .args .r)
-
-all-bytes : (c : tie.After-shared-slice-known) → Bytes (reportIn c)
-all-bytes c = bytes-at (reportIn c) (λ i. c .shared-slice-known .given i .fits)
-
-no-count : (r : List ℕ) (n p : ℕ) {o : Outcome} → o ≡ Refused n p → Refusal r n p → HeadRead r o
-no-count r n p e h = subst (HeadRead r) (sym e) h
 
 -- the record that was found at its start
 found-head : (c : tie.After-due)
@@ -44,9 +34,7 @@ refusal-requires : tie.Need-refusal-requires
 refusal-requires c κs = search needs
 
 returns : tie.Need-returns
-returns c =
-    let t = c .before in
-    no-count (reportIn (t .before)) 10 0 (c .refusal .ensures) (Long (t .if1 .taken))
+returns c = ap outOf (c .refusal .ensures) ∙ sym (head-long (reportIn (c .before .before)) (c .before .if1 .taken))
 
 record-at-requires : tie.Need-record-at-requires
 record-at-requires c κs = search needs
@@ -60,12 +48,10 @@ enum-told c = search needs
 returns-2 : tie.Need-returns-2
 returns-2 c =
     let p = c .before .before in
-    let k = p .before .before in
-    let r = reportIn k in
-    no-count r (c .enum-told .given .0 .0) (c .enum-told .given .0 .1 .0) (c .enum-told .given .1)
-    (Later _ _ (omega (arith, p .before .if1 .left))
-    (missed r (all-bytes k) 1 0 (c .enum-told .given .0 .0) (c .enum-told .given .0 .1 .0)
-    (subst (λ (o : Outcome). pieceOf r 0 o ≡ reading 1 0 (drop 0 r)) (c .enum-told .given .1) (p .record-at .ensures .0)) Head))
+    let r = reportIn (p .before .before) in
+    let o = c .enum-told .given in
+    ap outOf (o .1)
+    ∙ sym (head-missed r (omega (arith, p .before .if1 .left)) (sym (subst (λ (x : Outcome). pieceOf r 0 x ≡ reading 1 0 (drop 0 r)) (o .1) (p .record-at .ensures .0))))
 
 refusal-requires-2 : tie.Need-refusal-requires-2
 refusal-requires-2 c κs = search needs
@@ -77,7 +63,7 @@ returns-3 c =
     let r = reportIn k in
     let f = found-head d in
     let short : length r ≤ 60000 = omega (arith, d .before .before .before .if1 .left) in
-    no-count r 13 0 (c .refusal2 .ensures) (Later 13 0 short (head-13 r (all-bytes k) (d .due .given .0 .0) (f .1) (f .0) (c .before .if2 .taken)))
+    ap outOf (c .refusal2 .ensures) ∙ sym (head-13 r short (d .due .given .0 .0) (f .1) (sym (f .0)) (c .before .if2 .taken))
 
 shared-slice-read-word : tie.Need-shared-slice-read-word
 shared-slice-read-word c =
@@ -118,8 +104,7 @@ returns-4 c =
     let r = reportIn k in
     let f = found-head d in
     let short : length r ≤ 60000 = omega (arith, d .before .before .before .if1 .left) in
-    no-count r 14 0 (c .refusal3 .ensures)
-    (Later 14 0 short (head-14 r (all-bytes k) (d .due .given .0 .0) (f .1) (f .0) (e .if2 .left) (λ q. c .before .if3 .taken (w .word .ensures .0 ∙ q))))
+    ap outOf (c .refusal3 .ensures) ∙ sym (head-14 r short (d .due .given .0 .0) (f .1) (sym (f .0)) (e .if2 .left) (λ q. c .before .if3 .taken (w .word .ensures .0 ∙ q)))
 
 refusal-requires-4 : tie.Need-refusal-requires-4
 refusal-requires-4 c κs = search needs
@@ -135,9 +120,8 @@ returns-5 c =
     let r = reportIn k in
     let f = found-head d in
     let short : length r ≤ 60000 = omega (arith, d .before .before .before .if1 .left) in
-    no-count r 15 0 (c .refusal4 .ensures)
-    (Later 15 0 short
-    (head-15 r (all-bytes k) (d .due .given .0 .0) (f .1) (f .0) (e .if2 .left) (sym (w .word .ensures .0) ∙ t .if3 .left) (sym (v .word2 .ensures .0) ∙ c .before .if4 .taken)))
+    ap outOf (c .refusal4 .ensures)
+    ∙ sym (head-15 r short (d .due .given .0 .0) (f .1) (sym (f .0)) (e .if2 .left) (sym (w .word .ensures .0) ∙ t .if3 .left) (sym (v .word2 .ensures .0) ∙ c .before .if4 .taken))
 
 returns-6 : tie.Need-returns-6
 returns-6 c =
@@ -149,12 +133,9 @@ returns-6 c =
     let k = d .before .before .before .before in
     let r = reportIn k in
     let f = found-head d in
-    let short : length r ≤ 60000 = omega (arith, d .before .before .before .if1 .left) in (
-      short,
-      omega (arith, c .if4 .left),
-      rw (v .word2 .ensures .0)
-          (head-begins r (all-bytes k) (d .due .given .0 .0) (f .1) (f .0) (e .if2 .left) (sym (w .word .ensures .0) ∙ t .if3 .left)),
-    )
+    let short : length r ≤ 60000 = omega (arith, d .before .before .before .if1 .left) in
+    rw (v .word2 .ensures .0)
+    (sym (head-count r short (d .due .given .0 .0) (f .1) (sym (f .0)) (e .if2 .left) (sym (w .word .ensures .0) ∙ t .if3 .left) (λ q. c .if4 .left (v .word2 .ensures .0 ∙ q))))
 
 pub count-of-spec : {M : Type 1} → statement M
 count-of-spec =

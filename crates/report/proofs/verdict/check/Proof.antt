@@ -1,7 +1,7 @@
 -- `check` meets its contract.
-use Prim.Native.Nat.{ℕ, _+_, _-_, _≤_, _<_}
+use Prim.Native.Nat.{ℕ, _+_, _-_, _≤_}
 use mathlib.Core.Path.{_≡_, refl, ap, sym, _∙_, subst}
-use mathlib.Core.Bool.{Bool, true, cond, _&&_}
+use mathlib.Core.Bool.{Bool, cond, _&&_}
 use mathlib.Core.List.{List}
 use native.Mathlib.Omega.{arith}
 use borrow.Author.Tests.{not-true, not-false}
@@ -9,19 +9,18 @@ use denote.Ref.{now}
 use lib.ListN.{length, take, drop}
 use Rattle.packet.specs.Numbers.{Bytes}
 use Rattle.packet.proofs.Numbers.{bytes-at}
-use Rattle.settings.specs.Settings.{factory, settingsInRule}
+use Rattle.settings.specs.Settings.{factory}
 use Rattle.settings.specs.declared.settings.Settings.{Settings}
 use Rattle.settings.proofs.Keeping.{kept-factory, in-rule-of}
 use Rattle.command.specs.Playing.{play, clean}
-use Rattle.tuning.specs.Report.{Trial}
-use Rattle.tuning.specs.Claim.{trialRecords}
-use Rattle.tuning.specs.Refusals.{Layout, Later}
-use Rattle.layout.specs.Found.{HeadRead, Read, EndRead}
+use Rattle.tuning.specs.Records.{Good}
+use Rattle.tuning.specs.Report.{Trials, readTrials, readHead}
+use Rattle.layout.specs.Found.{outOf, winnerAt}
 use Rattle.layout.specs.declared.record.Outcome.{Outcome}
 use Rattle.layout.specs.declared.record.Outcome.the-variants.{Value, Refused}
-use Rattle.trials.specs.Found.{TrialsRead, TrialsAre}
+use Rattle.trials.specs.Found.{First, BestOf}
 use Rattle.trials.specs.Played.{endSettings, endClean}
-use Rattle.report.proofs.Promised.{promised-no, promised-yes, room, refusal-18, refusal-19, claim}
+use Rattle.report.proofs.Promised.{promised-no, promised-yes, best-bad, best-good, head-no, trials-no, winner-no, room, short, refused-18, refused-19, accepted-with}
 use borrow.Author.Needs.{needs}
 use Rattle.report.proofs.verdict.check.Statement.{statement}
 use Rattle.report.proofs.verdict.check.Tie as tie
@@ -44,53 +43,33 @@ all-bytes : (c : tie.After-shared-slice-known) → Bytes (reportIn c)
 all-bytes c = bytes-at (reportIn c) (λ i. c .shared-slice-known .given i .fits)
 
 -- what each of the three calls read
-head-is : (c : tie.After-head) → HeadRead (reportIn (c .before .before .before)) (Value (c .head .given .0 .0))
-head-is c = subst (HeadRead (reportIn (c .before .before .before))) (c .head .given .1) (c .before .before .count-of .ensures)
-
-best-is : (c : tie.After-best-of)
-    → let h = c .before .before in
-    TrialsRead (reportIn (h .before .before .before)) (h .head .given .0 .0) (c .best-of .result .next) (c .best-of .result .trial) (c .best-of .result .score) (c .best-of .result .settings)
-best-is c =
-    let h = head-is (c .before .before) in
-    c .best-of .ensures (h .1) (h .2)
+head-is : (c : tie.After-head) → readHead (reportIn (c .before .before .before)) ≡ Good (c .head .given .0 .0)
+head-is c = sym (c .before .before .count-of .ensures) ∙ ap outOf (c .head .given .1)
 
 trials-are : (c : tie.After-next)
     → let t = c .before .before in
     let h = t .before .before in
-    TrialsAre (reportIn (h .before .before .before)) (h .head .given .0 .0) (c .next .given .0 .0) (t .best-of .result .trial) (t .best-of .result .score) (t .best-of .result .settings)
+    (q : Trials) × (readTrials (h .head .given .0 .0) 8 (drop 8 (reportIn (h .before .before .before))) ≡ Good q) × (c .next .given .0 .0 ≡ q .at)
+    × First (q .list) (t .best-of .result .trial) (t .best-of .result .score) (t .best-of .result .settings)
 trials-are c =
     let t = c .before .before in
     let h = t .before .before in
-    subst (λ (o : Outcome). TrialsRead (reportIn (h .before .before .before)) (h .head .given .0 .0) o (t .best-of .result .trial) (t .best-of .result .score) (t .best-of .result .settings))
-    (c .next .given .1) (best-is t)
+    let o = readTrials (h .head .given .0 .0) 8 (drop 8 (reportIn (h .before .before .before))) in
+    best-good o (t .best-of .result .trial) (t .best-of .result .score) (t .best-of .result .settings)
+    (subst (λ (x : Outcome). BestOf o x (t .best-of .result .trial) (t .best-of .result .score) (t .best-of .result .settings)) (c .next .given .1) (t .best-of .ensures))
 
-end-is : (c : tie.After-winner-of)
-    → let n = c .before .before in
-    let t = n .before .before in
-    EndRead (reportIn (t .before .before .before .before .before)) (t .best-of .result .trial) (trials-are n .list) (c .winner-of .result)
-end-is c =
-    let n = c .before .before in
-    let t = trials-are n in
-    c .winner-of .ensures (t .list)
-    (record {
-      begins = t .begins;
-      count = t .count;
-      some = head-is (n .before .before .before .before) .1;
-      place = t .place;
-      named = t .best .named;
-      first = t .best .first;
-    })
-
-layout-is : (c : tie.After-enum-told3)
+winner-is : (c : tie.After-enum-told3)
     → let n = c .before .before .before .before in
     let t = n .before .before in
-    let r = reportIn (t .before .before .before .before .before) in
-    Layout r (trials-are n .list) (c .enum-told3 .given .0 .0) (drop (18 + length (trialRecords (trials-are n .list))) r)
-    × (c .enum-told3 .given .0 .0 ≡ t .best-of .result .trial)
-layout-is c =
+    let h = t .before .before in
+    winnerAt (reportIn (h .before .before .before)) (trials-are n .0 .at) (h .head .given .0 .0) (t .best-of .result .trial) ≡ Good (c .enum-told3 .given .0 .0)
+winner-is c =
     let n = c .before .before .before .before in
     let t = n .before .before in
-    subst (EndRead (reportIn (t .before .before .before .before .before)) (t .best-of .result .trial) (trials-are n .list)) (c .enum-told3 .given .1) (end-is (c .before .before))
+    let h = t .before .before in
+    ap (λ (x : ℕ). winnerAt (reportIn (h .before .before .before)) x (h .head .given .0 .0) (t .best-of .result .trial)) (sym (trials-are n .2))
+    ∙ sym (c .before .before .winner-of .ensures)
+    ∙ ap outOf (c .enum-told3 .given .1)
 
 -- kind 4 begins inside the report
 room-for : (c : tie.After-enum-told3)
@@ -99,22 +78,37 @@ room-for : (c : tie.After-enum-told3)
     (n .next .given .0 .0 + 6 + 4 ≤ length r) × (length r ≤ 60000)
 room-for c =
     let n = c .before .before .before .before in
-    let h = n .before .before .before .before in
-    let l = layout-is c in
-    (room (reportIn (h .before .before .before)) (head-is h .0) (trials-are n) (c .enum-told3 .given .0 .0) (l .0) (l .1), head-is h .0)
+    let t = n .before .before in
+    let h = t .before .before in
+    let k = h .before .before .before in
+    let a = trials-are n in
+    let x = room (reportIn k) (all-bytes k) (h .head .given .0 .0) (head-is h) (a .0) (a .1) (t .best-of .result .trial) (t .best-of .result .score) (t .best-of .result .settings) (a .3) (c .enum-told3 .given .0 .0) (winner-is c) in
+    let y = short (reportIn k) (all-bytes k) (h .head .given .0 .0) (head-is h) (a .0) (a .1) (t .best-of .result .trial) (t .best-of .result .score) (t .best-of .result .settings) (a .3) (c .enum-told3 .given .0 .0) (winner-is c) in
+    (omega (arith, a .2), y)
 
 -- the shipping packets, played from factory values
 abbrev slice : tie.After-play → List ℕ
 slice c =
     let n = c .before .before .before .before .before .before .before in
     let r = reportIn (n .before .before .before .before .before .before .before) in
-    take (length r - (n .next .given .0 .0 + 6 + 4)) (drop (n .next .given .0 .0 + 6 + 4) r)
+    take (length r - (trials-are n .0 .at + 6 + 4)) (drop (trials-are n .0 .at + 6 + 4) r)
 
 played : (c : tie.After-play) → (c .play .result .settings ≡ play factory (slice c) .settings) × (c .play .result .clean ≡ clean factory (slice c))
 played c =
+    let n = c .before .before .before .before .before .before .before in
+    let r = reportIn (n .before .before .before .before .before .before .before) in
+    let p = ap (λ (x : ℕ). take (length r - (x + 6 + 4)) (drop (x + 6 + 4) r)) (trials-are n .2) in
     let f = c .before .before .factory .ensures in
-    let e = in-rule-of factory kept-factory in
-    (c .play .ensures .0 ∙ ap (λ (s : Settings). endSettings s (slice c)) f ∙ ap (λ (x : Bool). cond x (play factory (slice c) .settings) factory) e, c .play .ensures .1 ∙ ap (λ (s : Settings). endClean s (slice c)) f ∙ ap (λ (x : Bool). x && clean factory (slice c)) e)
+    let e = in-rule-of factory kept-factory in (
+      c .play .ensures .0
+          ∙ ap (endSettings (c .before .before .factory .result)) p
+          ∙ ap (λ (s : Settings). endSettings s (slice c)) f
+          ∙ ap (λ (x : Bool). cond x (play factory (slice c) .settings) factory) e,
+      c .play .ensures .1
+          ∙ ap (endClean (c .before .before .factory .result)) p
+          ∙ ap (λ (s : Settings). endClean s (slice c)) f
+          ∙ ap (λ (x : Bool). x && clean factory (slice c)) e,
+    )
 
 count-of-requires : tie.Need-count-of-requires
 count-of-requires c κs = search needs
@@ -133,7 +127,7 @@ returns c =
     let o = c .before in
     let k = o .before .before in
     let r = reportIn (k .before) in
-    promised-no r (all-bytes (k .before)) (subst (HeadRead r) (o .enum-told .given .1) (k .count-of .ensures)) (c .refused .ensures .0 ∙ o .enum-told .given .1)
+    promised-no r (all-bytes (k .before)) (head-no r (sym (k .count-of .ensures) ∙ ap outOf (o .enum-told .given .1))) (c .refused .ensures .0 ∙ o .enum-told .given .1)
     (c .refused .ensures .1) (c .refused .ensures .2)
 
 best-of-requires : tie.Need-best-of-requires
@@ -155,9 +149,11 @@ returns-2 c =
     let h = t .before .before in
     let k = h .before .before .before in
     let r = reportIn k in
+    let b = t .best-of .result in
+    let x = readTrials (h .head .given .0 .0) 8 (drop 8 r) in
     promised-no r (all-bytes k)
-    (Later _ _ (head-is h .0)
-    (subst (λ (x : Outcome). TrialsRead r (h .head .given .0 .0) x (t .best-of .result .trial) (t .best-of .result .score) (t .best-of .result .settings)) (o .enum-told2 .given .1) (best-is t)))
+    (trials-no r (h .head .given .0 .0) (head-is h)
+    (best-bad x (b .trial) (b .score) (b .settings) (subst (λ (y : Outcome). BestOf x y (b .trial) (b .score) (b .settings)) (o .enum-told2 .given .1) (t .best-of .ensures))))
     (c .refused2 .ensures .0 ∙ o .enum-told2 .given .1) (c .refused2 .ensures .1) (c .refused2 .ensures .2)
 
 winner-of-requires : tie.Need-winner-of-requires
@@ -181,8 +177,11 @@ returns-3 c =
     let h = t .before .before in
     let k = h .before .before .before in
     let r = reportIn k in
+    let a = trials-are n in
+    let b = t .best-of .result in
     promised-no r (all-bytes k)
-    (Later _ _ (head-is h .0) (subst (EndRead r (t .best-of .result .trial) (trials-are n .list)) (o .enum-told4 .given .1) (end-is w)))
+    (winner-no r (all-bytes k) (h .head .given .0 .0) (head-is h) (a .0) (a .1) (b .trial) (b .score) (b .settings) (a .3)
+    (ap (λ (x : ℕ). winnerAt r x (h .head .given .0 .0) (b .trial)) (sym (a .2)) ∙ sym (w .winner-of .ensures) ∙ ap outOf (o .enum-told4 .given .1)))
     (c .refused3 .ensures .0 ∙ o .enum-told4 .given .1) (c .refused3 .ensures .1) (c .refused3 .ensures .2)
 
 add-ship : tie.Need-add-ship
@@ -215,15 +214,17 @@ refused-requires-4 c κs = search needs
 returns-4 : tie.Need-returns-4
 returns-4 c =
     let q = c .before .before .before .before in
-    let n = q .before .before .before .before .before .before .before in
-    let h = n .before .before .before .before in
+    let d = q .before .before .before in
+    let n = d .before .before .before .before in
+    let t = n .before .before in
+    let h = t .before .before in
     let k = h .before .before .before in
     let r = reportIn k in
-    let d = q .before .before .before in
-    let l = layout-is d in
+    let a = trials-are n in
+    let b = t .best-of .result in
     let g = played q in
-    promised-no r (all-bytes k) (refusal-18 r (head-is h .0) (trials-are n) (d .enum-told3 .given .0 .0) (l .0) (l .1) (g .1) (not-true (q .play .result .clean) (c .before .before .if1 .taken)))
-    (c .refused4 .ensures .0 ∙ c .before .refusal .ensures) (c .refused4 .ensures .1) (c .refused4 .ensures .2)
+    promised-no r (all-bytes k) (refused-18 r (all-bytes k) (h .head .given .0 .0) (head-is h) (a .0) (a .1) (b .trial) (b .score) (b .settings) (a .3) (d .enum-told3 .given .0 .0) (winner-is d) (g .1) (not-true (q .play .result .clean) (c .before .before .if1 .taken)))
+    (c .refused4 .ensures .0 ∙ c .before .refusal .ensures ∙ ap (λ (x : ℕ). Refused 18 (x + 6)) (a .2)) (c .refused4 .ensures .1) (c .refused4 .ensures .2)
 
 same-settings-requires : tie.Need-same-settings-requires
 same-settings-requires c κs = search needs
@@ -239,32 +240,37 @@ returns-5 c =
     let m = c .before .before .before in
     let i = m .before .before in
     let q = i .before .before in
-    let n = q .before .before .before .before .before .before .before in
-    let h = n .before .before .before .before in
+    let d = q .before .before .before in
+    let n = d .before .before .before .before in
+    let t = n .before .before in
+    let h = t .before .before in
     let k = h .before .before .before in
     let r = reportIn k in
-    let d = q .before .before .before in
-    let l = layout-is d in
+    let a = trials-are n in
+    let b = t .best-of .result in
     let g = played q in
     promised-no r (all-bytes k)
-    (refusal-19 r (head-is h .0) (trials-are n) (d .enum-told3 .given .0 .0) (l .0) (l .1) (g .1) (not-false (q .play .result .clean) (i .if1 .left)) (g .0) (m .same-settings .ensures)
+    (refused-19 r (all-bytes k) (h .head .given .0 .0) (head-is h) (a .0) (a .1) (b .trial) (b .score) (b .settings) (a .3) (d .enum-told3 .given .0 .0) (winner-is d) (g .1) (not-false (q .play .result .clean) (i .if1 .left)) (g .0) (m .same-settings .ensures)
     (not-true (m .same-settings .result) (c .before .before .if2 .taken)))
-    (c .refused5 .ensures .0 ∙ c .before .refusal2 .ensures) (c .refused5 .ensures .1) (c .refused5 .ensures .2)
+    (c .refused5 .ensures .0 ∙ c .before .refusal2 .ensures ∙ ap (λ (x : ℕ). Refused 19 (x + 6)) (a .2)) (c .refused5 .ensures .1) (c .refused5 .ensures .2)
 
 returns-6 : tie.Need-returns-6
 returns-6 c =
     let m = c .before in
     let i = m .before .before in
     let q = i .before .before in
-    let n = q .before .before .before .before .before .before .before in
-    let h = n .before .before .before .before in
+    let d = q .before .before .before in
+    let n = d .before .before .before .before in
+    let t = n .before .before in
+    let h = t .before .before in
     let k = h .before .before .before in
     let r = reportIn k in
-    let d = q .before .before .before in
-    let l = layout-is d in
+    let a = trials-are n in
+    let b = t .best-of .result in
     let g = played q in
     promised-yes r (all-bytes k)
-    (claim r (head-is h .0) (trials-are n) (d .enum-told3 .given .0 .0) (l .0) (l .1) (g .1) (not-false (q .play .result .clean) (i .if1 .left)) (g .0) (m .same-settings .ensures) (not-false (m .same-settings .result) (c .if2 .left)))
+    (accepted-with r (all-bytes k) (h .head .given .0 .0) (head-is h) (a .0) (a .1) (b .trial) (b .score) (b .settings) (a .3) (d .enum-told3 .given .0 .0) (winner-is d) (g .1) (not-false (q .play .result .clean) (i .if1 .left)) (g .0) (m .same-settings .ensures)
+    (not-false (m .same-settings .result) (c .if2 .left)))
     (d .enum-told3 .given .1)
 
 pub check-spec : {M : Type 1} → statement M

@@ -3,19 +3,16 @@ use Prim.Native.Nat.{ℕ, _≤_, _<_, _-_, _+_}
 use mathlib.Core.Path.{_≡_, ap, sym, subst}
 use mathlib.Core.Bool.{true}
 use mathlib.Core.Logic.{inl, inr}
-use mathlib.Core.List.{[]}
 use native.Mathlib.Omega.{arith}
 use borrow.Author.Needs.{needs}
 use denote.Ref.{now}
-use lib.ListN.{drop}
 use Rattle.settings.specs.Settings.{factory, settingsInRule}
 use Rattle.settings.specs.declared.settings.Settings.{Settings}
 use Rattle.settings.proofs.Keeping.{kept-factory, in-rule-of}
-use Rattle.tuning.specs.Refusals.{Begins}
 use Rattle.layout.specs.declared.record.Outcome.{Outcome}
 use Rattle.trials.specs.Found.{TrialRead, TrialIs}
 use Rattle.trials.specs.declared.trial.Ends.{Ends}
-use Rattle.trials.proofs.Walking.{Walked, walked-start, walked-better, walked-other, walked-by, walked-end, no-trials, rule-trial}
+use Rattle.trials.proofs.Walking.{Walked, walked-start, walked-better, walked-other, walked-by, walked-missed, walked-end, rule-trial}
 use Rattle.trials.proofs.trial.best_of.Statement.{statement}
 use Rattle.trials.proofs.trial.best_of.Tie as tie
 use Rattle.trials.proofs.trial.best_of.Reads as reads
@@ -24,11 +21,11 @@ use Rattle.settings.proofs.settings.Settings.factory.Reads as factory-reads
 use Rattle.trials.proofs.trial.trial_at.Reads as trial-at-reads
 
 abbrev Inv-loop : tie.InvT-loop
-Inv-loop r count ends₀ at₀ trial₀ score₀ i₀ ends at trial score i =
-    (i ≤ count) × (settingsInRule (ends .last) ≡ true) × (0 < count → Begins r count [] (drop 8 r) → Walked r count i at (ends .last) trial score (ends .best))
+Inv-loop r count start ends₀ at₀ trial₀ score₀ i₀ ends at trial score i =
+    (i ≤ count) × (settingsInRule (ends .last) ≡ true) × Walked r i at (ends .last) trial score (ends .best)
 
 abbrev μ-loop : tie.MeasureT-loop
-μ-loop r count ends₀ at₀ trial₀ score₀ i₀ ends at trial score i = count - i
+μ-loop r count start ends₀ at₀ trial₀ score₀ i₀ ends at trial score i = count - i
 
 -- the trial of a turn
 trial-in : (c : tie.After-next Inv-loop μ-loop)
@@ -46,13 +43,11 @@ again : (c : tie.Joined1 Inv-loop μ-loop)
     let t = n .before .before .before in
     let l = t .before .before .before in
     let a = l .before .before .before .args in
-    0 < a .count
-    → Begins (now (a .r)) (a .count) [] (drop 8 (now (a .r)))
-    → Walked (now (a .r)) (a .count) (l .loop .i + 1) (n .next .given .0 .0) (c .if1 .ends .last) (c .if1 .trial) (c .if1 .score) (c .if1 .ends .best)
-again c z g =
+    Walked (now (a .r)) (l .loop .i + 1) (n .next .given .0 .0) (c .if1 .ends .last) (c .if1 .trial) (c .if1 .score) (c .if1 .ends .best)
+again c =
     let n = c .before .before .before in
     let l = n .before .before .before .before .before .before in
-    let w = l .loop .inv .2 z g in
+    let w = l .loop .inv .2 in
     elim (c .if1 .came) [
       | inl q ↦ walked-by (ap (λ (x : Ends). x .last) (q .1)) (q .2) (q .3) (ap (λ (x : Ends). x .best) (q .1)) (walked-better w (trial-in n) (q .0 .taken))
       | inr q ↦ walked-by (ap (λ (x : Ends). x .last) (q .1)) (q .2) (q .3) (ap (λ (x : Ends). x .best) (q .1)) (walked-other w (trial-in n) (q .0 .left))
@@ -77,14 +72,9 @@ factory-requires c κs = search needs
 
 loop-holds : tie.Need-loop-holds Inv-loop μ-loop
 loop-holds c =
-    let a = c .before .before in
-    let r = now (a .args .r) in
-    let e = sym (c .factory .ensures) in (
-      omega arith,
-      subst (λ (s : Settings). settingsInRule s ≡ true) e (in-rule-of factory kept-factory),
-      λ z g.
-          subst (λ (s : Settings). Walked r (a .args .count) 0 8 s 0 0 s) e (walked-start r (a .args .count) g),
-    )
+    let r = now (c .before .before .args .r) in
+    let e = sym (c .factory .ensures) in
+    (omega arith, subst (λ (s : Settings). settingsInRule s ≡ true) e (in-rule-of factory kept-factory), subst (λ (s : Settings). Walked r 0 8 s 0 0 s) e (walked-start r))
 
 trial-at-requires : tie.Need-trial-at-requires Inv-loop μ-loop
 trial-at-requires c κs = c .before .before .loop .inv .1
@@ -96,14 +86,13 @@ enum-told : tie.Need-enum-told Inv-loop μ-loop
 enum-told c = search needs
 
 returns : tie.Need-returns Inv-loop μ-loop
-returns c z g =
+returns c =
     let t = c .before .before .before in
     let l = t .before .before .before in
     let a = l .before .before .before .args in
-    let w = l .loop .inv .2 z g in
     let none =
     subst (λ (o : Outcome). TrialRead (now (a .r)) (l .loop .at) (l .loop .ends .last) o (t .trial-at .result .score) (t .trial-at .result .settings)) (c .enum-told .given .1) (t .trial-at .ensures) in
-    no-trials (a .count) _ _ _ (c .enum-told .given .1) (none (a .count) (w .list) (w .begins) (omega (arith, w .count, t .before .before .loop-test .taken)) (w .place))
+    walked-missed (l .loop .inv .2) (t .before .before .loop-test .taken) (c .enum-told .given .1) none (l .before .factory .ensures)
 
 add-i : tie.Need-add-i Inv-loop μ-loop
 add-i c =
@@ -121,7 +110,7 @@ loop-again c =
     (omega (arith, t .before .before .loop-test .taken), ended-in-rule c, again c)
 
 returns-2 : tie.Need-returns-2 Inv-loop μ-loop
-returns-2 c z g = walked-end (c .before .before .loop .inv .2 z g) (omega (arith, c .before .before .loop .inv .0, c .before .loop-test .left)) z
+returns-2 c = walked-end (c .before .before .loop .inv .2) (omega (arith, c .before .before .loop .inv .0, c .before .loop-test .left))
 
 pub best-of-spec : {M : Type 1} → statement M
 best-of-spec =

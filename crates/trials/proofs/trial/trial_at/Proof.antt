@@ -1,13 +1,11 @@
 -- `trial_at` meets its contract.
 use Prim.Native.Nat.{ℕ, _+_, _-_, _≤_}
-use mathlib.Core.Path.{_≡_, ap, _∙_, subst}
+use mathlib.Core.Path.{_≡_, sym, ap, _∙_, subst}
 use mathlib.Core.Bool.{Bool, cond}
 use mathlib.Core.List.{List}
 use native.Mathlib.Omega.{arith}
 use denote.Ref.{now}
 use lib.ListN.{length, take, drop}
-use Rattle.packet.specs.Numbers.{Bytes}
-use Rattle.packet.proofs.Numbers.{bytes-at}
 use Rattle.command.specs.Playing.{play}
 use Rattle.tuning.specs.Records.{reading}
 use Rattle.layout.specs.Found.{pieceOf, endOf}
@@ -24,12 +22,8 @@ use Rattle.layout.proofs.refusal.Reads as refusal-reads
 use Rattle.packet.proofs.word.Reads as word-reads
 use Rattle.trials.proofs.player.play.Reads as play-reads
 
--- the report, whose elements are bytes
 abbrev reportIn : tie.After-shared-slice-known → List ℕ
 reportIn c = now (c .before .args .r)
-
-all-bytes : (c : tie.After-shared-slice-known) → Bytes (reportIn c)
-all-bytes c = bytes-at (reportIn c) (λ i. c .shared-slice-known .given i .fits)
 
 -- what the record's reading gave
 abbrev ReadAt : List ℕ → ℕ → Outcome → Type 0
@@ -55,8 +49,7 @@ returns c =
     let k = p .before in
     let a = k .before .args in
     let o = c .enum-told .given in
-    no-trial (a .s) _ _ (o .1)
-    (trial-missed (reportIn k) (all-bytes k) (a .at) (o .0 .0) (o .0 .1 .0) (subst (ReadAt (reportIn k) (a .at)) (o .1) (p .record-at .ensures) .0))
+    no-trial (reportIn k) (a .at) (a .s) _ _ (o .1) (trial-missed (reportIn k) (a .at) (sym (subst (ReadAt (reportIn k) (a .at)) (o .1) (p .record-at .ensures) .0)))
 
 add-next : tie.Need-add-next
 add-next c = omega (arith, found-trial (c .before) .1)
@@ -73,7 +66,7 @@ returns-2 c =
     let k = d .before .before .before in
     let a = k .before .args in
     let f = found-trial d in
-    no-trial (a .s) _ _ (c .refusal .ensures) (trial-13 (reportIn k) (all-bytes k) (a .at) (d .due .given .0 .0) (f .1) (f .0) (c .before .if1 .taken))
+    no-trial (reportIn k) (a .at) (a .s) _ _ (c .refusal .ensures) (trial-13 (reportIn k) (a .at) (d .due .given .0 .0) (f .1) (sym (f .0)) (c .before .if1 .taken))
 
 add-word : tie.Need-add-word
 add-word c = omega (arith, found-trial (c .before .before) .1)
@@ -145,7 +138,7 @@ returns-3 c =
     let f = found-trial d in
     let n = d .due .given .0 .0 in
     let bytes = take (a .at + 4 + n - (a .at + 8)) (drop (a .at + 8) (reportIn k)) in
-    trial-is (reportIn k) (all-bytes k) (a .at) n (f .1) (f .0) (omega (arith, e .if1 .left)) (w .word .ensures .0) (v .word2 .ensures .0)
+    trial-is (reportIn k) (a .at) n (f .1) (sym (f .0)) (omega (arith, e .if1 .left)) (w .word .ensures .0) (v .word2 .ensures .0)
     (c .before .play .ensures .0 ∙ ap (λ (x : Bool). cond x (play (a .s) bytes .settings) (a .s)) (k .before .pre))
 
 pub trial-at-spec : {M : Type 1} → statement M
