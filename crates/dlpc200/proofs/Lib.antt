@@ -1,0 +1,3 @@
+-- The laws of the call, for its own proofs and for the crates above, and the theorems.
+pub mod Responding
+pub mod Examples

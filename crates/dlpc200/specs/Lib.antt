@@ -1,0 +1,4 @@
+-- What the contracts cite.
+pub mod Playing
+pub mod Calls
+pub mod Examples

@@ -1,0 +1,43 @@
+// The device: the states and the receiver. Firmware lends it, so it is made of numbers alone and
+// means something whatever they are.
+use dlpc200_packet::Receiver;
+use dlpc200_rules::States;
+ghost use mathlib.Core.Path.{_≡_};
+ghost use Rattle.dlpc200.specs.Calls.{deviceWith, inRule, packetInRule};
+
+#[repr(C)]
+pub struct Device {
+    pub states: States,
+    pub receiver: Receiver,
+}
+
+// The current packet has not all its bytes.
+fn packet_in_rule(header: [u8; 6], received: usize) -> bool
+    ensures { λ r. ⌜ r ≡ packetInRule header received ⌝ }
+{
+    received < 7 + packet::word(header[4], header[5])
+}
+
+impl Device {
+    // A device between two packets, with the states that the host supplies.
+    pub fn with(states: States) -> Device
+        ensures { λ r. ⌜ r ≡ deviceWith states ⌝ }
+    {
+        Device {
+            states: states,
+            receiver: Receiver::FRESH,
+        }
+    }
+
+    // What refusal 3 lets pass.
+    pub(crate) fn in_rule(self) -> bool
+        ensures { λ r. ⌜ r ≡ inRule self ⌝ }
+    {
+        let states = self.states;
+        let receiver = self.receiver;
+        let header = receiver.header;
+        let a = states.in_range();
+        let b = packet_in_rule(header, receiver.received);
+        a & b
+    }
+}
