@@ -173,6 +173,20 @@ pub completes : (r : Receiver) (b : List ℕ) → missing (framedBy r) b ≤ len
 unfolding receiving
 completes r b l = ap (taking r b) (packet-completes (framedBy r) 0 b l)
 
+-- a complete packet leaves the receiver between two packets
+pub received-none : (r : Receiver) (b : List ℕ) (n : ℕ) → taking r b (completed (framedBy r) 0 b n) .receiver .received ≡ 0
+unfolding taking completed
+received-none r b n = refl
+
+pub made-completed : (r : Receiver) (b : List ℕ) (n : ℕ) → Made r → Made (taking r b (completed (framedBy r) 0 b n) .receiver)
+unfolding taking completed packetWith
+made-completed r b n m =
+    record {
+      header = length-sets (r .header) (r .received) (take (n - 1) b) ∙ m .header;
+      id = length-sets (r .id) (0 + (r .received - 6)) (drop (6 - r .received) (take (n - 1) b)) ∙ m .id;
+      sum = omega arith;
+    }
+
 taking-front : (r : Receiver) (a b : List ℕ) (n : ℕ) → n - 1 < length a → taking r (a ++ b) (completed (framedBy r) 0 a n) ≡ taking r a (completed (framedBy r) 0 a n)
 unfolding taking completed
 taking-front r a b n l = rw (List·getD-append a b 0 (n - 1) l, take-append-le (n - 1) a b (omega arith))

@@ -1,2 +1,3 @@
 -- The laws of the rules, for their own proofs and for the crates above.
 pub mod Counting
+pub mod Judgements
