@@ -1,0 +1,297 @@
+// Compares libdlpc200_port.a with the model: every answer, every byte of the output and every field
+// of the device, on the document's packets and on seeded streams, cut anywhere, and devices of any
+// field values. Fails if a fault, a refusal or a command was never met.
+mod model;
+use model::{Answer, Judged, Model};
+
+#[repr(C)]
+#[derive(Clone, Copy, PartialEq, Debug)]
+struct States {
+    park: u8,
+    sequence: u8,
+    eeprom: u8,
+    flash: u8,
+    lit: u8,
+}
+
+#[repr(C)]
+#[derive(Clone, Copy, PartialEq, Debug)]
+struct Receiver {
+    header: [u8; 6],
+    id: [u8; 2],
+    sum: u8,
+    received: usize,
+}
+
+#[repr(C)]
+#[derive(Clone, Copy, PartialEq, Debug)]
+struct Device {
+    states: States,
+    receiver: Receiver,
+}
+
+#[repr(C)]
+#[derive(Clone, Copy, PartialEq, Debug)]
+struct Reply {
+    kind: u8,
+    number: u8,
+    taken: usize,
+    length: usize,
+}
+
+#[repr(C)]
+struct Stepped {
+    device: Device,
+    reply: Reply,
+}
+
+unsafe extern "C" {
+    fn dlpc200_device(states: States) -> Device;
+    fn dlpc200_receive(d: &mut Device, input: *const u8, input_length: usize, out: *mut u8, out_length: usize) -> Reply;
+    fn dlpc200_step(d: Device, input: *const u8, input_length: usize, out: *mut u8, out_length: usize) -> Stepped;
+    fn dlpc200_faults(data0: u8, data1: u8) -> u32;
+}
+
+struct Random(u64);
+
+impl Random {
+    fn next(&mut self) -> u64 {
+        self.0 ^= self.0 << 13;
+        self.0 ^= self.0 >> 7;
+        self.0 ^= self.0 << 17;
+        self.0.wrapping_mul(0x2545F4914F6CDD1D) >> 16
+    }
+    fn below(&mut self, n: usize) -> usize {
+        (self.next() % n as u64) as usize
+    }
+    fn byte(&mut self) -> u8 {
+        self.next() as u8
+    }
+    fn one_of<T: Copy>(&mut self, from: &[T]) -> T {
+        from[self.below(from.len())]
+    }
+}
+
+// What was met, by name.
+#[derive(Default)]
+struct Tally(std::collections::BTreeMap<&'static str, u64>);
+
+impl Tally {
+    fn add(&mut self, name: &'static str, met: bool) {
+        *self.0.entry(name).or_insert(0) += met as u64;
+    }
+
+    fn answer(&mut self, answer: &Answer, judged: &Option<Judged>, length: usize) {
+        self.add("refusal 1", *answer == Answer::Refused(1));
+        self.add("refusal 3", *answer == Answer::Refused(3));
+        self.add("waiting with nothing taken", *answer == Answer::Waiting(0));
+        self.add("waiting", matches!(answer, Answer::Waiting(n) if *n > 0));
+        let Some(j) = judged else { return };
+        let one = j.faults() == 1;
+        self.add("checksum", j.checksum);
+        self.add("checksum alone", j.checksum && one);
+        self.add("CMD1", j.cmd1);
+        self.add("CMD1 alone", j.cmd1 && one);
+        self.add("CMD2", j.cmd2);
+        self.add("CMD2 alone", j.cmd2 && one);
+        self.add("CMD4", j.cmd4);
+        self.add("CMD4 alone", j.cmd4 && one);
+        self.add("size", j.size);
+        self.add("size alone", j.size && one);
+        self.add("all five faults", j.faults() == 5);
+        self.add("unknown command alone", j.unknown && j.faults() == 0);
+        self.add("unknown command with a fault", j.unknown && j.faults() > 0);
+        self.add("no data", length == 0);
+        self.add("one data byte", length == 1);
+        self.add("504 data bytes", length == 504);
+        self.add("505 data bytes", length == 505);
+        let done = |id: u16| j.id == id && !j.failed();
+        self.add("0005", done(0x0005));
+        self.add("0006", done(0x0006));
+        self.add("0015", done(0x0015));
+        self.add("0016", done(0x0016));
+        self.add("0017", done(0x0017));
+        self.add("0029", done(0x0029));
+        self.add("002A", done(0x002A));
+    }
+}
+
+fn real(m: &Model) -> Device {
+    let [park, sequence, eeprom, flash, lit] = m.states;
+    let mut header = [0; 6];
+    header.copy_from_slice(&m.first[..6]);
+    Device {
+        states: States { park, sequence, eeprom, flash, lit },
+        receiver: Receiver { header, id: [m.first[6], m.first[7]], sum: m.sum, received: m.count },
+    }
+}
+
+fn reply(answer: &Answer) -> Reply {
+    match *answer {
+        Answer::Refused(number) => Reply { kind: 2, number, taken: 0, length: 0 },
+        Answer::Waiting(taken) => Reply { kind: 0, number: 0, taken, length: 0 },
+        Answer::Answered(taken, length) => Reply { kind: 1, number: 0, taken, length },
+    }
+}
+
+// One call on both sides, and on the real side by value and lent. Gives the bytes taken.
+fn call(m: &mut Model, input: &[u8], room: usize, fill: u8, tally: &mut Tally) -> usize {
+    let before = real(m);
+    let length = m.first[4] as usize + 256 * m.first[5] as usize;
+    let mut wanted = vec![fill; room];
+    let (answer, judged) = m.receive(input, &mut wanted);
+    let length = if judged.is_some() { m.first[4] as usize + 256 * m.first[5] as usize } else { length };
+    tally.answer(&answer, &judged, length);
+
+    let mut lent = before;
+    let mut out = vec![fill; room];
+    let got = unsafe { dlpc200_receive(&mut lent, input.as_ptr(), input.len(), out.as_mut_ptr(), out.len()) };
+    assert_eq!((lent, got), (real(m), reply(&answer)), "from {before:?} with {input:02X?}");
+    assert_eq!(out, wanted, "from {before:?} with {input:02X?}");
+
+    let mut out = vec![fill; room];
+    let got = unsafe { dlpc200_step(before, input.as_ptr(), input.len(), out.as_mut_ptr(), out.len()) };
+    assert_eq!((got.device, got.reply), (real(m), reply(&answer)), "by value, from {before:?} with {input:02X?}");
+    assert_eq!(out, wanted, "by value, from {before:?} with {input:02X?}");
+
+    if let Some(j) = judged {
+        assert_eq!(unsafe { dlpc200_faults(out[6], out[7]) }, j.faults(), "faults of {out:02X?}");
+    }
+    match answer {
+        Answer::Refused(_) => 0,
+        Answer::Waiting(n) | Answer::Answered(n, _) => n,
+    }
+}
+
+// Bytes in one piece, call after call.
+fn feed(m: &mut Model, mut input: &[u8], fill: u8, tally: &mut Tally) {
+    loop {
+        let n = call(m, input, 64, fill, tally);
+        if n == 0 {
+            return;
+        }
+        input = &input[n..];
+    }
+}
+
+fn packet(r: &mut Random) -> Vec<u8> {
+    let known = [0x05, 0x06, 0x15, 0x16, 0x17, 0x29, 0x2A];
+    let id = if r.below(5) == 0 { r.one_of(&[0x00u8, 0x04, 0x07, 0x14, 0x18, 0x28, 0x2B, 0xFF]) } else { r.one_of(&known) };
+    let high = if r.below(20) == 0 { r.byte() } else { 0 };
+    let mut data = vec![id, high];
+    if r.below(4) == 0 {
+        let sizes = [0, 1, 3, 4, 255, 256, 257, 503, 504, 505, 506, 1024, 3000];
+        let size = if r.below(400) == 0 { 65535 } else { r.one_of(&sizes) };
+        while data.len() < size {
+            let b = if r.below(2) == 0 { 0 } else { r.byte() };
+            data.push(b);
+        }
+        data.truncate(size);
+    }
+    let right = if id == 0x05 || id == 0x06 { 0x02 } else { 0x04 };
+    let cmd1 = if r.below(5) == 0 { r.one_of(&[0x00, 0x01, 0x02, 0x03, 0x04, 0x05, 0x82, 0xFF]) } else { right };
+    let cmd2 = if r.below(8) == 0 { r.one_of(&[0x00, 0xA9, 0xAB, 0x55, 0x2A, 0xFF]) } else { 0xAA };
+    let cmd3 = if r.below(3) == 0 { r.byte() } else { 0x00 };
+    let cmd4 = if r.below(8) == 0 { r.one_of(&[0x01, 0x02, 0x04, 0x80, 0xFF]) } else { 0x00 };
+    let mut p = vec![cmd1, cmd2, cmd3, cmd4, data.len() as u8, (data.len() >> 8) as u8];
+    p.extend(&data);
+    let sum = p[4..].iter().fold(0u8, |a, b| a.wrapping_add(*b));
+    let wrong = [1, 0x80, cmd4, cmd1.wrapping_add(cmd2).wrapping_add(cmd3).wrapping_add(cmd4)];
+    p.push(if r.below(8) == 0 { sum.wrapping_add(r.one_of(&wrong)) } else { sum });
+    p
+}
+
+fn states(r: &mut Random) -> [u8; 5] {
+    let mut s = [r.byte() & 1, r.byte() & 1, r.byte() & 1, r.byte() & 7, r.byte() & 1];
+    if r.below(12) == 0 {
+        let i = r.below(5);
+        s[i] = r.one_of(&[2, 7, 8, 255]);
+    }
+    s
+}
+
+fn worked(tally: &mut Tally) {
+    let requests: [(&[u8], &[u8]); 9] = [
+        (&[0x04, 0xAA, 0, 0, 2, 0, 0x15, 0, 0x17], &[0x05, 0xAA, 0, 0, 3, 0, 0, 0, 0, 0x03]),
+        (&[0x02, 0xAA, 0, 0, 2, 0, 0x05, 0, 0x07], &[0x03, 0xAA, 0, 0, 2, 0, 0, 0, 0x02]),
+        (&[0x04, 0xAA, 0, 0, 2, 0, 0x15, 0, 0x17], &[0x05, 0xAA, 0, 0, 3, 0, 0, 0, 1, 0x04]),
+        (&[0x02, 0xAA, 0, 0, 2, 0, 0x06, 0, 0x08], &[0x03, 0xAA, 0, 0, 2, 0, 0, 0, 0x02]),
+        (&[0x04, 0xAA, 0, 0, 2, 0, 0x15, 0, 0x17], &[0x05, 0xAA, 0, 0, 3, 0, 0, 0, 0, 0x03]),
+        (&[0x04, 0xAA, 0, 0, 2, 0, 0x16, 0, 0x18], &[0x05, 0xAA, 0, 0, 3, 0, 0, 0, 1, 0x04]),
+        (&[0x04, 0xAA, 0, 0, 2, 0, 0x17, 0, 0x19], &[0x05, 0xAA, 0, 0, 3, 0, 0, 0, 0, 0x03]),
+        (&[0x04, 0xAA, 0, 0, 2, 0, 0x29, 0, 0x2B], &[0x05, 0xAA, 0, 0, 3, 0, 0, 0, 7, 0x0A]),
+        (&[0x04, 0xAA, 0, 0, 2, 0, 0x2A, 0, 0x2C], &[0x05, 0xAA, 0, 0, 3, 0, 0, 0, 1, 0x04]),
+    ];
+    let mut d = unsafe { dlpc200_device(States { park: 0, sequence: 1, eeprom: 0, flash: 7, lit: 1 }) };
+    let mut m = Model { states: [0, 1, 0, 7, 1], first: [0; 8], count: 0, sum: 0 };
+    assert_eq!(d, real(&m));
+    for (request, response) in requests {
+        let mut out = [0xEE; 64];
+        let got = unsafe { dlpc200_receive(&mut d, request.as_ptr(), request.len(), out.as_mut_ptr(), 64) };
+        assert_eq!(got, Reply { kind: 1, number: 0, taken: 9, length: response.len() });
+        assert_eq!(&out[..response.len()], response);
+        assert!(out[response.len()..].iter().all(|b| *b == 0xEE));
+        feed(&mut m, request, 0xEE, tally);
+        assert_eq!(d, real(&m));
+    }
+}
+
+fn main() {
+    let rounds: u64 = std::env::args().nth(1).map_or(20_000, |n| n.parse().expect("a number of rounds"));
+    let mut tally = Tally::default();
+    worked(&mut tally);
+    for d0 in 0..=255u8 {
+        for d1 in 0..=255u8 {
+            let ones = (0..8).filter(|i| *i != 6 && d0 >> i & 1 == 1).count() + (0..8).filter(|i| d1 >> i & 1 == 1).count();
+            assert_eq!(unsafe { dlpc200_faults(d0, d1) }, ones as u32);
+        }
+    }
+    for seed in 1..=rounds {
+        let mut r = Random(seed.wrapping_mul(0x9E3779B97F4A7C15));
+        // a stream of packets, cut anywhere
+        let mut m = Model { states: states(&mut r), first: [0; 8], count: 0, sum: 0 };
+        let mut stream = vec![];
+        for _ in 0..r.below(6) {
+            stream.extend(packet(&mut r));
+        }
+        if r.below(3) == 0 {
+            let p = packet(&mut r);
+            stream.extend(&p[..r.below(p.len())]);
+        }
+        let mut rest = &stream[..];
+        while !rest.is_empty() {
+            let n = if r.below(3) == 0 { rest.len() } else { (1 + r.below(12)).min(rest.len()) };
+            if r.below(10) == 0 {
+                let short = r.below(64);
+                call(&mut m, &rest[..n], short, r.byte(), &mut tally);
+            }
+            if !m.in_rule() {
+                call(&mut m, &rest[..n], 64 + r.below(10), r.byte(), &mut tally);
+                break;
+            }
+            feed(&mut m, &rest[..n], r.byte(), &mut tally);
+            rest = &rest[n..];
+        }
+        // a device of any field values, and some bytes
+        let length = r.one_of(&[0usize, 1, 2, 3, 504, 505, 65535]);
+        let mut first = [0; 8];
+        first.iter_mut().for_each(|b| *b = r.byte());
+        first[4] = length as u8;
+        first[5] = (length >> 8) as u8;
+        let count = match r.below(6) {
+            0 => r.below(9),
+            1 => (length + 6).saturating_sub(r.below(4)),
+            2 => length + 6,
+            3 => length + 7 + r.below(3),
+            4 => usize::MAX - r.below(2),
+            _ => r.below(70000),
+        };
+        let mut m = Model { states: states(&mut r), first, count, sum: r.byte() };
+        let input: Vec<u8> = (0..r.below(40)).map(|_| r.byte()).collect();
+        let room = if r.below(5) == 0 { r.below(64) } else { 64 + r.below(8) };
+        call(&mut m, &input, room, r.byte(), &mut tally);
+    }
+    let never: Vec<_> = tally.0.iter().filter(|(_, n)| **n == 0).map(|(name, _)| *name).collect();
+    assert!(never.is_empty(), "never met: {never:?}");
+    println!("dlpc200: {rounds} rounds alike; {}", tally.0.iter().map(|(name, n)| format!("{name} {n}")).collect::<Vec<_>>().join(", "));
+}
