@@ -3,17 +3,17 @@ use Prim.Native.Nat.{ℕ, _+_, _^_, _<_, _≤_}
 use mathlib.Core.Path.{_≡_, refl, ap₂}
 use mathlib.Core.Bool.{Bool, true, false}
 use native.Mathlib.Omega.{arith}
-use lib.Bits.{bitAnd, and-le-r}
+use lib.Bits.{bitAnd, and-le-l}
 use lib.Count.{onesIn, ones, ones-le}
 use Rattle.dlpc200_rules.specs.Status.{bit, data0, data1, faultBits, faultsHeld}
 use Rattle.dlpc200_rules.specs.declared.judging.Faults.{Faults}
 
--- two bytes have at most sixteen ones
-pub count-fits : (d0 d1 : ℕ) → d1 < 256 → ones (bitAnd d0 0xBF) + ones d1 < 2 ^ 32
-count-fits d0 d1 h =
-    let a : bitAnd d0 0xBF ≤ 0xBF = and-le-r d0 0xBF in
-    let b : bitAnd d0 0xBF < 2 ^ 8 = omega arith in
-    omega (arith, ones-le 8 (bitAnd d0 0xBF) b, ones-le 8 d1 h)
+-- two bytes have at most sixteen ones, the first through any mask
+pub count-fits : (a m b : ℕ) → a < 256 → b < 256 → ones (bitAnd a m) + ones b < 2 ^ 32
+count-fits a m b h l =
+    let k : bitAnd a m ≤ a = and-le-l a m in
+    let n : bitAnd a m < 2 ^ 8 = omega arith in
+    omega (arith, ones-le 8 (bitAnd a m) n, ones-le 8 b l)
 
 -- the ones of each byte, case by case
 

@@ -9,7 +9,7 @@ use Rattle.dlpc200_rules.proofs.status.fault_count.Reads as reads
 use Rattle.dlpc200_rules.proofs.status.fault_count.Lts as lts
 
 add-result : tie.Need-add-result
-add-result c = record { fits = count-fits (c .args .data0) (c .args .data1) (search needs) }
+add-result c = record { fits = count-fits (c .args .data0) _ (c .args .data1) (search needs) (search needs) }
 
 returns : tie.Need-returns
 unfolding faultBits
