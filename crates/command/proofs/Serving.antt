@@ -20,44 +20,22 @@ use Rattle.packet.proofs.Receiving.{Made, made-with, made-between, with-nil, mi
 use Rattle.packet.proofs.Calls.{Streaming, shifted, in-pieces}
 use Rattle.settings.specs.Table.{cmd1For, cmd2For, commandOf, isKnown}
 use Rattle.settings.specs.Settings.{settingsInRule}
-use Rattle.command.specs.Judging.{Transfer, Closed, Opened, Arrived, held, faults, anyFault, judgeData, judge, settingsAfter}
-use Rattle.command.specs.Calls.{
-  Outcome,
-  Refuses,
-  Waits,
-  Answers,
-  noTransfer,
-  heldIn,
-  transferIn,
-  transferInRule,
-  packetInRule,
-  inRule,
-  packetIn,
-  arrivedIn,
-  judgedIn,
-  transferStateAfter,
-  carriedOut,
-  responseIn,
-  takenBy,
-  After,
-  refused,
-  waiting,
-  answered,
-  receiveCall,
-}
+use Rattle.judging.specs.Judging.{Transfer, Closed, Opened, Arrived, held, faults, anyFault, judgeData, judge, settingsAfter}
+use Rattle.judging.specs.Held.{noTransfer, heldIn, transferIn, transferInRule, packetIn, transferStateAfter}
+use Rattle.command.specs.Calls.{Outcome, Refuses, Waits, Answers, packetInRule, inRule, arrivedIn, judgedIn, carriedOut, responseIn, takenBy, After, refused, waiting, answered, receiveCall}
 use Rattle.settings.specs.declared.settings.Settings.{Settings}
 use Rattle.settings.specs.declared.command.Command.{Command}
 use Rattle.settings.specs.declared.command.Found.{Found}
 use Rattle.settings.specs.declared.command.Found.the-variants.{Known, Unknown}
-use Rattle.command.specs.declared.judge.Judgement.{Judgement}
-use Rattle.command.specs.declared.judge.Judgement.the-variants.{Refuse, Hold, Write, Read}
-use Rattle.command.specs.declared.controller.TransferState.{TransferState}
+use Rattle.judging.specs.declared.judge.Judgement.{Judgement}
+use Rattle.judging.specs.declared.judge.Judgement.the-variants.{Refuse, Hold, Write, Read}
+use Rattle.judging.specs.declared.transfer.TransferState.{TransferState}
 use Rattle.command.specs.declared.controller.Controller.{Controller}
 use Rattle.settings.proofs.Commands.{found}
 use Rattle.settings.proofs.Keeping.{Kept, kept-by, in-rule-of}
-use Rattle.command.proofs.Judgements.{Sound, sound}
-use Rattle.command.proofs.Plays.{kept-judgement}
-use Rattle.command.proofs.Holding.{fits-hold, held-length, held-most}
+use Rattle.judging.proofs.Judgements.{Sound, sound}
+use Rattle.judging.proofs.Plays.{kept-judgement}
+use Rattle.judging.proofs.Holding.{fits-hold, held-length, held-most}
 
 -- what a call shows of its answer: the bytes taken, and the response at the output's start
 abbrev pub takenOf : Outcome → ℕ

@@ -1,24 +1,18 @@
 -- The receive call: when it refuses, and what it answers and leaves.
 use Prim.Native.Nat.{ℕ, _+_}
-use mathlib.Core.Bool.{Bool, true, false, cond, not, _&&_, _||_}
-use mathlib.Core.List.{List, [], _∷_}
-use lib.Dec.{eqb, leb, ltb}
-use lib.ListN.{length, getD, take, drop}
-use Rattle.packet.specs.Packet.{typeOf, cmd1Of, cmd2Of, flagsOf, payloadLength}
+use mathlib.Core.Bool.{Bool, true, cond, _&&_}
+use mathlib.Core.List.{List}
+use lib.Dec.{ltb}
+use lib.ListN.{length}
+use Rattle.packet.specs.Packet.{payloadLength}
 use Rattle.packet.specs.Receiving.{fresh as freshReceiver, receiving}
 use Rattle.writer.specs.Writing.{written}
 use Rattle.packet.specs.declared.receiver.Receiver.{Receiver}
 use Rattle.packet.specs.declared.receiver.Received.{Received}
-use Rattle.settings.specs.Table.{cmd1For, cmd2For, hasCode, commandOf, isKnown}
 use Rattle.settings.specs.Settings.{factory, settingsInRule}
-use Rattle.command.specs.Judging.{Transfer, Closed, Opened, Arrived, judge, settingsAfter, response}
-use Rattle.settings.specs.declared.settings.Settings.{Settings}
-use Rattle.settings.specs.declared.command.Command.{Command}
-use Rattle.settings.specs.declared.command.Found.{Found}
-use Rattle.settings.specs.declared.command.Found.the-variants.{Known, Unknown}
-use Rattle.command.specs.declared.judge.Judgement.{Judgement}
-use Rattle.command.specs.declared.judge.Judgement.the-variants.{Refuse, Hold, Write, Read}
-use Rattle.command.specs.declared.controller.TransferState.{TransferState}
+use Rattle.judging.specs.Judging.{Arrived, judge, settingsAfter, response}
+use Rattle.judging.specs.Held.{noTransfer, heldIn, transferIn, transferInRule, packetIn, transferStateAfter}
+use Rattle.judging.specs.declared.judge.Judgement.{Judgement}
 use Rattle.command.specs.declared.controller.Controller.{Controller}
 use Rattle.command.specs.declared.endpoint.Answer.{Answer}
 use Rattle.command.specs.declared.endpoint.Answer.the-variants.{Waiting, Answered, ShortOutput, OutOfRule}
@@ -37,56 +31,18 @@ outcomeOf (Answered n m) = Answers n m
 
 -- The controller: the settings, an open transfer or none, and the receiver, in whose hold the held bytes stand first.
 
-abbrev pub noTransfer : TransferState
-noTransfer = record { active = 0; cmd1 = 0; cmd2 = 0; held = 0 }
-
 -- a fresh controller: factory values, nothing half received and no transfer open
 abbrev pub fresh : Controller
 fresh = record { settings = factory; transfer = noTransfer; receiver = freshReceiver }
 
--- how many bytes are held
-abbrev pub heldIn : TransferState → ℕ
-heldIn t = cond (eqb (t .active) 0) 0 (t .held)
-
-abbrev pub openedFor : Found → List ℕ → Transfer
-openedFor Unknown d = Closed
-openedFor (Known c) d = Opened c d
-
--- the open transfer, its held data being the first bytes of the hold
-abbrev pub transferIn : TransferState → List ℕ → Transfer
-transferIn t hold = cond (eqb (t .active) 0) Closed (openedFor (commandOf (t .cmd1) (t .cmd2)) (take (t .held) hold))
-
-abbrev pub isOpenIn : TransferState → Bool
-isOpenIn t = not (eqb (t .active) 0)
-
--- a transfer is open for this command, by its bytes
-abbrev pub openForIn : Found → TransferState → Bool
-openForIn Unknown t = false
-openForIn (Known c) t = isOpenIn t && hasCode (t .cmd1) (t .cmd2) c
-
--- Refusal 3: a setting not allowed, run 1 outside mode 4, over 1,024 held bytes, a transfer open for a command not in the table,
--- or a half-received packet that already has all its bytes.
-unfoldable pub transferInRule : TransferState → Bool
-transferInRule t = leb (t .held) 1024 && (eqb (t .active) 0 || isKnown (commandOf (t .cmd1) (t .cmd2)))
-
+-- a half-received packet that has not all its bytes yet
 unfoldable pub packetInRule : List ℕ → ℕ → Bool
 packetInRule header received = ltb received (7 + payloadLength header)
 
+-- Refusal 3: a setting not allowed, run 1 outside mode 4, over 1,024 held bytes, a transfer open for a command not in the table,
+-- or a half-received packet that already has all its bytes.
 unfoldable pub inRule : Controller → Bool
 inRule c = settingsInRule (c .settings) && transferInRule (c .transfer) && packetInRule (c .receiver .header) (c .receiver .received)
-
--- the complete packet: its header, whether its checksum was right, and its payload behind the n bytes that were held
-abbrev pub packetIn : ℕ → List ℕ → Bool → List ℕ → Arrived
-packetIn n header right hold =
-    record {
-      type = typeOf header;
-      cmd1 = cmd1Of header;
-      cmd2 = cmd2Of header;
-      flags = flagsOf header;
-      size = payloadLength header;
-      right = right;
-      body = take (payloadLength header) (drop n hold);
-    }
 
 abbrev pub arrivedIn : ℕ → Received → Arrived
 arrivedIn n t = packetIn n (t .receiver .header) (t .right) (t .receiver .hold)
@@ -94,13 +50,6 @@ arrivedIn n t = packetIn n (t .receiver .header) (t .right) (t .receiver .hold)
 -- how it is judged
 unfoldable pub judgedIn : Controller → Received → Judgement
 judgedIn c t = judge (c .settings .mode) (transferIn (c .transfer) (t .receiver .hold)) (arrivedIn (heldIn (c .transfer)) t)
-
--- the transfer afterwards, n bytes being held then
-abbrev pub transferStateAfter : TransferState → ℕ → Judgement → TransferState
-transferStateAfter t n (Refuse k) = noTransfer
-transferStateAfter t n (Hold c) = record { active = 1; cmd1 = cmd1For c; cmd2 = cmd2For c; held = n }
-transferStateAfter t n (Write v) = noTransfer
-transferStateAfter t n (Read c) = t
 
 -- the judgement carried out
 abbrev pub carriedOut : Controller → Received → Judgement → Controller

@@ -1,5 +1,2 @@
--- What the contracts of the command layer cite, in the order of document 01.
-pub mod Judging
-pub mod Playing
+-- What the contract of the receive call cites.
 pub mod Calls
-pub mod Encoding

@@ -1,16 +1,15 @@
 // The receive call: host bytes in, a response out, the controller handed back.
-use crate::carry::emit;
-use crate::carry::response_data;
-use crate::carry::response_type;
-use crate::carry::settings_after;
-use crate::carry::transfer_after;
 use crate::controller::Controller;
 use crate::judge::judge;
+use carrying::respond;
+use carrying::settings_after;
+use carrying::transfer_after;
 ghost use mathlib.Core.Path.{_≡_};
 ghost use mathlib.Core.Bool.{true};
 ghost use Prim.Native.Nat.{_≤_};
 ghost use lib.ListN.{length};
-ghost use Rattle.command.specs.Calls.{answered, completeBy, outcomeOf, receiveCall, transferInRule};
+ghost use Rattle.judging.specs.Held.{transferInRule};
+ghost use Rattle.command.specs.Calls.{answered, completeBy, outcomeOf, receiveCall};
 
 // What a call answers.
 pub enum Answer {
@@ -49,8 +48,7 @@ fn complete(c: Controller, taken: usize, right: bool, out: &mut [u8]) -> Step
     let header = receiver.header;
     let hold = receiver.hold;
     let j = judge(settings.mode, transfer, header, right, &hold);
-    let d = response_data(settings, j);
-    let length = emit(out, response_type(j), header[1], header[2], d);
+    let length = respond(out, settings, header[1], header[2], j);
     let n = transfer.held() + packet::word(header[4], header[5]);
     Step {
         controller: Controller {

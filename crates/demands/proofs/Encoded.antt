@@ -15,13 +15,13 @@ use Rattle.settings.specs.declared.settings.Settings.{Settings}
 use Rattle.settings.proofs.Commands.{Fit}
 use Rattle.values.specs.Values.{commandIn, valuesIn, dataIn}
 use Rattle.values.specs.declared.value.Value.{Value}
-use Rattle.command.specs.Judging.{Closed, Arrived, arrived, modeFault, response}
-use Rattle.command.specs.Playing.{State, from, judged, next, responses, after}
-use Rattle.command.specs.Calls.{transferIn}
-use Rattle.command.specs.Encoding.{writePacket, encoded}
-use Rattle.command.specs.declared.judge.Judgement.the-variants.{Refuse, Write}
+use Rattle.judging.specs.Judging.{Closed, Arrived, arrived, modeFault, response}
+use Rattle.judging.specs.Playing.{State, from, judged, next, responses, after}
+use Rattle.judging.specs.Held.{transferIn}
+use Rattle.encoder.specs.Encoding.{writePacket, encoded}
+use Rattle.judging.specs.declared.judge.Judgement.the-variants.{Refuse, Write}
 use Rattle.command.specs.declared.controller.Controller.{Controller}
-use Rattle.command.proofs.Writes.{encoder-judged}
+use Rattle.encoder.proofs.Writes.{encoder-judged}
 use Rattle.command.proofs.Serving.{serves, Ready}
 use Rattle.demands.proofs.Following.{stateOf, follows}
 

@@ -22,7 +22,7 @@ use Rattle.packet.proofs.Framing.{IsPacket, packets-cons, rest-cons, packets-no
 use Rattle.packet.proofs.Receiving.{Made, Between, between-packet, afterPacket, one, first-of, too-few}
 use Rattle.packet.proofs.Calls.{same-calls}
 use Rattle.settings.specs.Table.{cmd1For, cmd2For, commandOf}
-use Rattle.command.specs.Judging.{
+use Rattle.judging.specs.Judging.{
   Transfer,
   Closed,
   Opened,
@@ -37,33 +37,19 @@ use Rattle.command.specs.Judging.{
   transferAfter,
   response,
 }
-use Rattle.command.specs.Playing.{State, judged, next, responses, after}
-use Rattle.command.specs.Calls.{
-  heldIn,
-  transferIn,
-  transferInRule,
-  packetIn,
-  arrivedIn,
-  judgedIn,
-  transferStateAfter,
-  carriedOut,
-  responseIn,
-  takenBy,
-  After,
-  waiting,
-  answered,
-  receiveCall,
-}
+use Rattle.judging.specs.Playing.{State, judged, next, responses, after}
+use Rattle.judging.specs.Held.{heldIn, transferIn, transferInRule, packetIn, transferStateAfter}
+use Rattle.command.specs.Calls.{arrivedIn, judgedIn, carriedOut, responseIn, takenBy, After, waiting, answered, receiveCall}
 use Rattle.settings.specs.declared.settings.Settings.{Settings}
 use Rattle.settings.specs.declared.command.Command.{Command}
 use Rattle.settings.specs.declared.command.Found.{Found}
 use Rattle.settings.specs.declared.command.Found.the-variants.{Known, Unknown}
-use Rattle.command.specs.declared.judge.Judgement.{Judgement}
-use Rattle.command.specs.declared.judge.Judgement.the-variants.{Refuse, Hold, Write, Read}
-use Rattle.command.specs.declared.controller.TransferState.{TransferState}
+use Rattle.judging.specs.declared.judge.Judgement.{Judgement}
+use Rattle.judging.specs.declared.judge.Judgement.the-variants.{Refuse, Hold, Write, Read}
+use Rattle.judging.specs.declared.transfer.TransferState.{TransferState}
 use Rattle.command.specs.declared.controller.Controller.{Controller}
 use Rattle.settings.proofs.Commands.{found}
-use Rattle.command.proofs.Holding.{fits-hold, by-transfer, none-open, one-open, held-is, held-most, held-length}
+use Rattle.judging.proofs.Holding.{fits-hold, by-transfer, none-open, one-open, held-is, held-most, held-length}
 use Rattle.command.proofs.Serving.{serves, shown, Ready, Rule, rule-parts, not-refused, stays-in-rule, endpoint-streams, Bounded, bounded}
 
 -- the state of the head, in document 01's terms

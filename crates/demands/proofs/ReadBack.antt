@@ -10,17 +10,17 @@ use Rattle.values.specs.Fields.{joinAll}
 use Rattle.settings.specs.Table.{cmd1For, cmd2For, same, layout, readable, allowed}
 use Rattle.settings.specs.Settings.{valuesOf, blocked, valuesAfter, store}
 use Rattle.values.specs.Values.{dataOf}
-use Rattle.command.specs.Judging.{Closed, Arrived, arrived, wrongCommand, tooLong, wrongOrder, faultsOf, faults, anyFault, judgeRead, judgeData, judge, response}
-use Rattle.command.specs.Playing.{from, judged, next, responses}
-use Rattle.command.specs.Encoding.{writePacket}
+use Rattle.judging.specs.Judging.{Closed, Arrived, arrived, wrongCommand, tooLong, wrongOrder, faultsOf, faults, anyFault, judgeRead, judgeData, judge, response}
+use Rattle.judging.specs.Playing.{from, judged, next, responses}
+use Rattle.encoder.specs.Encoding.{writePacket}
 use Rattle.settings.specs.declared.settings.Settings.{Settings}
 use Rattle.settings.specs.declared.command.Command.{Command}
 use Rattle.settings.specs.declared.command.Found.the-variants.{Known}
-use Rattle.command.specs.declared.judge.Judgement.the-variants.{Read}
+use Rattle.judging.specs.declared.judge.Judgement.the-variants.{Read}
 use Rattle.settings.proofs.Commands.{Fit, fit-length}
 use Rattle.settings.proofs.Commands.{each, found}
 use Rattle.settings.proofs.Keeping.{values-store}
-use Rattle.command.proofs.Writes.{plain, arrived-plain, next-write}
+use Rattle.encoder.proofs.Writes.{plain, arrived-plain, next-write}
 
 -- a read of a command: no request data
 abbrev pub readPacket : Command → List ℕ

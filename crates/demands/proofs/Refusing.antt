@@ -16,7 +16,7 @@ use Rattle.settings.specs.declared.command.Command.{Command}
 use Rattle.settings.specs.declared.command.Found.{Found}
 use Rattle.settings.specs.declared.command.Found.the-variants.{Known, Unknown}
 use Rattle.values.specs.Fields.{splitAll}
-use Rattle.command.specs.Judging.{
+use Rattle.judging.specs.Judging.{
   Transfer,
   Closed,
   Arrived,
@@ -36,11 +36,11 @@ use Rattle.command.specs.Judging.{
   settingsAfter,
   response,
 }
-use Rattle.command.specs.Playing.{State, judged, next, judgements, after}
+use Rattle.judging.specs.Playing.{State, judged, next, judgements, after}
 use Rattle.command.specs.Calls.{inRule, After, refused, receiveCall}
-use Rattle.command.specs.declared.judge.Codes.{Codes}
-use Rattle.command.specs.declared.judge.Judgement.{Judgement}
-use Rattle.command.specs.declared.judge.Judgement.the-variants.{Refuse, Hold, Write, Read}
+use Rattle.judging.specs.declared.judge.Codes.{Codes}
+use Rattle.judging.specs.declared.judge.Judgement.{Judgement}
+use Rattle.judging.specs.declared.judge.Judgement.the-variants.{Refuse, Hold, Write, Read}
 use Rattle.command.specs.declared.controller.Controller.{Controller}
 
 -- Codes go out ascending, none twice.

@@ -13,12 +13,13 @@ use Rattle.writer.specs.Writing.{written}
 use Rattle.packet.specs.declared.receiver.Received.{Received}
 use Rattle.packet.proofs.Framing.{IsPacket}
 use Rattle.packet.proofs.Receiving.{Between, between-packet, one, first-of, too-few}
-use Rattle.command.specs.Judging.{arrived, acknowledged, response}
-use Rattle.command.specs.Playing.{State, judged, next}
-use Rattle.command.specs.Calls.{Outcome, Waits, Answers, heldIn, judgedIn, carriedOut, responseIn, After, waiting, answered, receiveCall}
-use Rattle.command.specs.declared.judge.Judgement.{Judgement}
+use Rattle.judging.specs.Judging.{arrived, acknowledged, response}
+use Rattle.judging.specs.Playing.{State, judged, next}
+use Rattle.judging.specs.Held.{heldIn}
+use Rattle.command.specs.Calls.{Outcome, Waits, Answers, judgedIn, carriedOut, responseIn, After, waiting, answered, receiveCall}
+use Rattle.judging.specs.declared.judge.Judgement.{Judgement}
 use Rattle.command.specs.declared.controller.Controller.{Controller}
-use Rattle.command.proofs.Judgements.{acknowledged-type}
+use Rattle.judging.proofs.Judgements.{acknowledged-type}
 use Rattle.command.proofs.Serving.{Ready, not-refused, stays-in-rule}
 use Rattle.demands.proofs.Following.{stateOf, response-same, state-same, part-state}
 

@@ -11,7 +11,7 @@ use lib.ListN.{length, getD, take, drop, length-drop, drop-of-length-le}
 use lib.Seq.{drop-drop, take-nil, take-at, drop-at, length-take-le}
 use Rattle.packet.specs.Numbers.{valueOf}
 use Rattle.packet.proofs.Numbers.{value-two}
-use Rattle.command.specs.Playing.{isNil}
+use Rattle.judging.specs.Playing.{isNil}
 use Rattle.tuning.specs.Records.{Out, Bad, Good, _>>=_, _>>_, need, Piece, reading}
 use Rattle.tuning.specs.Report.{readHead, readEnd}
 use Rattle.layout.specs.Found.{pieceOf, winnerAt}

@@ -4,5 +4,6 @@ pub mod Lists
 pub mod Numbers
 pub mod Framing
 pub mod Receiving
+pub mod Lent
 pub mod Calls
 pub mod Streams

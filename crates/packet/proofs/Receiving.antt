@@ -83,7 +83,7 @@ abbrev pub after : ℕ → Received → Received
 after n t = record { taken = n + t .taken; complete = t .complete; right = t .right; receiver = t .receiver }
 
 -- a header that is complete stays
-header-stays : (r : Receiver) (a b : List ℕ) → length (r .header) ≡ 6 → 6 ≤ r .received + length a
+pub header-stays : (r : Receiver) (a b : List ℕ) → length (r .header) ≡ 6 → 6 ≤ r .received + length a
     → sets (r .header) (r .received) (a ++ b) ≡ sets (r .header) (r .received) a
 header-stays r a b h l =
     sym (sets-append a b (r .header) (r .received))

@@ -3,4 +3,5 @@ pub mod Numbers
 pub mod Packet
 pub mod Stream
 pub mod Receiving
+pub mod Taking
 pub mod Calls

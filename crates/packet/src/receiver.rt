@@ -1,10 +1,8 @@
 // The receiver: takes one packet from a stream of bytes, byte by byte as the stream arrives.
-use crate::number::word;
+use crate::taking::put_header;
+use crate::taking::take;
 ghost use mathlib.Core.Path.{_≡_};
 ghost use Rattle.packet.specs.Receiving.{fresh as freshOf, receiving};
-
-// How many payload bytes the hold has room for.
-pub const HOLD: usize = 1024;
 
 // What has come in of the current packet, and the hold of payload bytes. Between two packets
 // `received` and `sum` are 0, and header and hold are those of the last packet.
@@ -43,45 +41,20 @@ impl Receiver {
         Receiver::FRESH
     }
 
-    // Takes bytes until the input ends or one packet is complete. Payload bytes go to the hold
-    // from place `held` on; those that find no room there are counted, summed and dropped.
+    // Takes bytes until the input ends or one packet is complete.
     pub fn receive(mut self, held: usize, input: &[u8]) -> Received
         ensures { λ t. ⌜ t ≡ receiving self held (now (input .entry)) ⌝ }
     {
-        let mut i = 0;
-        while i < input.len() {
-            let b = input[i];
-            i += 1;
-            let length = word(self.header[4], self.header[5]);
-            let received = self.received;
-            if 6 + length <= received {
-                let right = b == self.sum;
-                self.received = 0;
-                self.sum = 0;
-                return Received {
-                    taken: i,
-                    complete: true,
-                    right: right,
-                    receiver: self,
-                };
-            }
-            self.sum = std::num::wrapping_add_u8(self.sum, b);
-            self.received = received + 1;
-            if received < 6 {
-                self.header[received] = b;
-            } else {
-                if held < HOLD {
-                    let at = held + (received - 6);
-                    if at < HOLD {
-                        self.hold[at] = b;
-                    }
-                }
-            }
-        }
+        let received = self.received;
+        put_header(&mut self.header, received, input);
+        let header = self.header;
+        let t = take(header, self.sum, received, &mut self.hold, held, input);
+        self.sum = t.sum;
+        self.received = t.received;
         Received {
-            taken: i,
-            complete: false,
-            right: false,
+            taken: t.taken,
+            complete: t.complete,
+            right: t.right,
             receiver: self,
         }
     }

@@ -13,7 +13,7 @@ use Rattle.packet.proofs.Cases.{bool-cases}
 use Rattle.packet.proofs.Numbers.{length-bytes}
 use Rattle.settings.specs.Settings.{factory}
 use Rattle.settings.specs.declared.settings.Settings.{Settings}
-use Rattle.command.specs.Playing.{play, clean}
+use Rattle.judging.specs.Playing.{play, clean}
 use Rattle.tuning.specs.Records.{Out, Bad, Good, _>>=_, _>>_, need}
 use Rattle.tuning.specs.Report.{
   Trial,

@@ -17,11 +17,12 @@ use Rattle.packet.proofs.Framing.{IsPacket, first-packet, size-within, seven, p
 use Rattle.packet.proofs.Receiving.{Between}
 use Rattle.settings.specs.Settings.{settingsInRule}
 use Rattle.settings.specs.declared.settings.Settings.{Settings}
-use Rattle.command.specs.Judging.{Transfer, Closed, isOpen, acknowledged}
-use Rattle.command.specs.Playing.{State, from, judged, next, judgements, after, play, allAcknowledged, isNil, clean}
-use Rattle.command.specs.Calls.{Outcome, Waits, Answers, Refuses, After, noTransfer, isOpenIn, transferInRule, packetInRule, inRule, receiveCall}
+use Rattle.judging.specs.Judging.{Transfer, Closed, isOpen, acknowledged}
+use Rattle.judging.specs.Playing.{State, from, judged, next, judgements, after, play, allAcknowledged, isNil, clean}
+use Rattle.judging.specs.Held.{noTransfer, isOpenIn, transferInRule}
+use Rattle.command.specs.Calls.{Outcome, Waits, Answers, Refuses, After, packetInRule, inRule, receiveCall}
 use Rattle.command.specs.declared.controller.Controller.{Controller}
-use Rattle.command.proofs.Holding.{open-is}
+use Rattle.judging.proofs.Holding.{open-is}
 use Rattle.command.proofs.Serving.{Ready, rule-parts, stays-in-rule}
 use Rattle.demands.proofs.Following.{stateOf}
 use Rattle.demands.proofs.Stepping.{Takes, takes-packet, takes-part}

@@ -16,10 +16,10 @@ use Rattle.packet.proofs.Cases.{bool-cases}
 use Rattle.settings.specs.Settings.{factory, settingsInRule}
 use Rattle.settings.specs.declared.settings.Settings.{Settings}
 use Rattle.settings.proofs.Keeping.{Kept, kept-by, in-rule-of}
-use Rattle.command.specs.Judging.{arrived, judge}
-use Rattle.command.specs.Playing.{State, from, judged, next, after, play}
-use Rattle.command.proofs.Judgements.{sound}
-use Rattle.command.proofs.Plays.{kept-judgement}
+use Rattle.judging.specs.Judging.{arrived, judge}
+use Rattle.judging.specs.Playing.{State, from, judged, next, after, play}
+use Rattle.judging.proofs.Judgements.{sound}
+use Rattle.judging.proofs.Plays.{kept-judgement}
 use Rattle.tuning.specs.Records.{Out, Bad, Good, _>>=_, _>>_, need, Piece, reading}
 use Rattle.tuning.specs.Report.{Trial, Trials, readTrials, scoreAt, endFrom}
 use Rattle.tuning.proofs.Flat.{bind-bind}

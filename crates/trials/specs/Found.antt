@@ -5,7 +5,7 @@ use mathlib.Core.List.{List, [], _∷_}
 use lib.ListN.{length, drop}
 use Rattle.settings.specs.Settings.{factory}
 use Rattle.settings.specs.declared.settings.Settings.{Settings}
-use Rattle.command.specs.Playing.{play}
+use Rattle.judging.specs.Playing.{play}
 use Rattle.tuning.specs.Records.{Out, Bad, Good, _>>=_}
 use Rattle.tuning.specs.Report.{Trial, Trials, readTrials, scoreAt, endFrom}
 use Rattle.tuning.specs.Claim.{FirstLowest}

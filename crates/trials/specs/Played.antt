@@ -4,7 +4,7 @@ use mathlib.Core.Bool.{Bool, cond, _&&_}
 use mathlib.Core.List.{List}
 use Rattle.settings.specs.Settings.{settingsInRule}
 use Rattle.settings.specs.declared.settings.Settings.{Settings}
-use Rattle.command.specs.Playing.{play, clean}
+use Rattle.judging.specs.Playing.{play, clean}
 
 -- where the play ends
 abbrev pub endSettings : Settings → List ℕ → Settings

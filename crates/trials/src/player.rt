@@ -1,7 +1,7 @@
 // Playing bytes from given settings, on a fresh receiver.
 use command::Answer;
 use command::Controller;
-use command::TransferState;
+use judging::TransferState;
 use packet::Receiver;
 use rules::settings_in_rule;
 use settings::Settings;

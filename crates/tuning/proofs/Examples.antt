@@ -7,7 +7,7 @@ use Rattle.settings.specs.Table.{find, commandOf, sizeOf, oneOf, listed, allowe
 use Rattle.settings.specs.Settings.{factory, blocked, valuesAfter, store}
 use Rattle.values.specs.Fields.{splitAll, joinAll}
 use Rattle.values.specs.Values.{dataOf}
-use Rattle.command.specs.Judging.{
+use Rattle.judging.specs.Judging.{
   wrongCommand,
   tooLong,
   wrongOrder,
@@ -22,7 +22,7 @@ use Rattle.command.specs.Judging.{
   judge,
   response,
 }
-use Rattle.command.specs.Playing.{judged, next, judgements, responses, after, play, allAcknowledged, clean}
+use Rattle.judging.specs.Playing.{judged, next, judgements, responses, after, play, allAcknowledged, clean}
 use Rattle.tuning.specs.Records.{_>>=_, need, reading}
 use Rattle.tuning.specs.Report.{
   readTrials,

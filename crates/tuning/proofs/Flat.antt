@@ -11,7 +11,7 @@ use lib.Seq.{length-take-le, drop-drop}
 use Rattle.packet.specs.Numbers.{valueOf}
 use Rattle.packet.proofs.Cases.{bool-cases, and-right}
 use Rattle.settings.specs.Settings.{factory}
-use Rattle.command.specs.Playing.{isNil}
+use Rattle.judging.specs.Playing.{isNil}
 use Rattle.tuning.specs.Records.{Out, Bad, Good, _>>=_, _>>_, need, Piece, reading}
 use Rattle.tuning.specs.Report.{Trial, Trials, Report, readTrials, readHead, readEnd, readReport, checkReport, verdictOf, verdict}
 

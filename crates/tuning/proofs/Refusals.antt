@@ -13,7 +13,7 @@ use Rattle.packet.specs.Numbers.{valueOf, bytesOf, Bytes}
 use Rattle.packet.proofs.Cases.{bool-cases}
 use Rattle.packet.proofs.Numbers.{value-bytes, length-bytes}
 use Rattle.settings.specs.Settings.{factory}
-use Rattle.command.specs.Playing.{play, isNil, clean}
+use Rattle.judging.specs.Playing.{play, isNil, clean}
 use Rattle.tuning.specs.Records.{Out, Bad, Good, _>>=_, _>>_, need, reading}
 use Rattle.tuning.specs.Report.{Trial, Trials, Report, readTrials, readEnd, endFrom, firstLowest, sameSettings, checkReport, Refused, verdictOf, verdict}
 use Rattle.tuning.specs.Claim.{recordOf, trialRecords, reportOf, Scores, FirstLowest, Ships}

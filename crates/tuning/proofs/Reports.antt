@@ -19,11 +19,11 @@ use Rattle.settings.specs.declared.settings.Settings.{Settings}
 use Rattle.settings.specs.declared.command.Command.{Command}
 use Rattle.settings.proofs.Commands.{each}
 use Rattle.settings.proofs.Keeping.{Kept, Fits, kept-factory, fits-factory}
-use Rattle.command.specs.Judging.{Transfer, Closed, Opened, isOpen}
-use Rattle.command.specs.Playing.{State, from, judgements, play, allAcknowledged, isNil, clean}
-use Rattle.command.specs.Encoding.{standardList}
-use Rattle.command.proofs.Lists.{standard-plays, standard-clean}
-use Rattle.command.proofs.Plays.{Holding, holding-play}
+use Rattle.judging.specs.Judging.{Transfer, Closed, Opened, isOpen}
+use Rattle.judging.specs.Playing.{State, from, judgements, play, allAcknowledged, isNil, clean}
+use Rattle.encoder.specs.Encoding.{standardList}
+use Rattle.encoder.proofs.Lists.{standard-plays, standard-clean}
+use Rattle.judging.proofs.Plays.{Holding, holding-play}
 use Rattle.tuning.specs.Records.{Out, Bad, Good, _>>=_, _>>_, need, Piece, reading}
 use Rattle.tuning.specs.Report.{
   Trial,

@@ -9,9 +9,9 @@ use Rattle.packet.specs.Numbers.{bytesOf}
 use Rattle.packet.specs.Stream.{packets, rest}
 use Rattle.settings.specs.Settings.{factory}
 use Rattle.settings.specs.declared.settings.Settings.{Settings}
-use Rattle.command.specs.Judging.{Closed}
-use Rattle.command.specs.Playing.{from, judgements, play, allAcknowledged}
-use Rattle.command.specs.Encoding.{standardList}
+use Rattle.judging.specs.Judging.{Closed}
+use Rattle.judging.specs.Playing.{from, judgements, play, allAcknowledged}
+use Rattle.encoder.specs.Encoding.{standardList}
 use Rattle.tuning.specs.Report.{Trial, scoreAt, endFrom, Verdict, Accepted, verdict}
 
 -- Records: body length (2 bytes), kind (2 bytes), body.

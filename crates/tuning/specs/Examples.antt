@@ -20,10 +20,10 @@ use Rattle.settings.specs.declared.command.Command.the-variants.{
   PatternSequence,
   SequenceRun,
 }
-use Rattle.command.specs.Judging.{codesOf}
-use Rattle.command.specs.Playing.{State, from, judged, next, responses, play, clean}
-use Rattle.command.specs.declared.judge.Judgement.{Judgement}
-use Rattle.command.specs.declared.judge.Judgement.the-variants.{Refuse, Hold, Write, Read}
+use Rattle.judging.specs.Judging.{codesOf}
+use Rattle.judging.specs.Playing.{State, from, judged, next, responses, play, clean}
+use Rattle.judging.specs.declared.judge.Judgement.{Judgement}
+use Rattle.judging.specs.declared.judge.Judgement.the-variants.{Refuse, Hold, Write, Read}
 use Rattle.tuning.specs.Report.{sameList, Verdict, Accepted, Refused, verdict}
 
 pub data Example : Type 0 where

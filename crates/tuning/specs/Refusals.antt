@@ -5,7 +5,7 @@ use mathlib.Core.List.{List, _∷_, _++_}
 use lib.ListN.{length, take}
 use Rattle.packet.specs.Numbers.{valueOf, bytesOf}
 use Rattle.settings.specs.Settings.{factory}
-use Rattle.command.specs.Playing.{play}
+use Rattle.judging.specs.Playing.{play}
 use Rattle.tuning.specs.Report.{Trial, endFrom}
 use Rattle.tuning.specs.Claim.{recordOf, trialRecords, reportOf, Scores, FirstLowest, Ships}
 

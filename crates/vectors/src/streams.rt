@@ -17,8 +17,8 @@ use crate::run::in_two;
 use crate::run::start;
 use crate::say::count;
 use crate::say::text;
-use command::Encoded;
-use command::TransferState;
+use encoder::Encoded;
+use judging::TransferState;
 use packet::Receiver;
 use settings::Settings;
 ghost use Prim.Native.Nat.{_≤_};
@@ -31,7 +31,7 @@ const PLACES: usize = 64;
 
 fn list_is(s: Settings, list: &[u8]) -> bool {
     let mut out = [0u8; 128];
-    match command::standard_list(s, &mut out) {
+    match encoder::standard_list(s, &mut out) {
         Encoded::Length(n) => starts_as(&out, n, list),
         _ => false,
     }

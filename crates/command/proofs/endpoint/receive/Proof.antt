@@ -9,7 +9,8 @@ use mathlib.Core.List.{List}
 use lib.ListN.{length}
 use Rattle.packet.specs.Receiving.{receiving}
 use Rattle.packet.specs.declared.receiver.Received.{Received}
-use Rattle.command.specs.Calls.{heldIn, inRule, judgedIn, responseIn, completeBy, After, waiting, answered, receiveCall}
+use Rattle.judging.specs.Held.{heldIn}
+use Rattle.command.specs.Calls.{inRule, judgedIn, responseIn, completeBy, After, waiting, answered, receiveCall}
 use Rattle.command.specs.declared.controller.Controller.{Controller}
 use Rattle.command.proofs.Serving.{rule-parts}
 use Rattle.command.proofs.endpoint.receive.Statement.{statement}

@@ -8,13 +8,12 @@ use lib.Seq.{length-take-le}
 use denote.Ref.{now}
 use Rattle.packet.specs.Packet.{typeOf, cmd1Of, cmd2Of, flagsOf, payloadLength}
 use Rattle.settings.specs.Table.{commandOf}
-use Rattle.command.specs.Judging.{faultsOf, anyFault}
-use Rattle.command.specs.Calls.{heldIn, isOpenIn, openForIn}
+use Rattle.judging.specs.Judging.{faultsOf, anyFault}
+use Rattle.judging.specs.Held.{heldIn, isOpenIn, openForIn}
 use Rattle.settings.specs.declared.command.Found.{Found}
-use Rattle.command.specs.declared.judge.Codes.{Codes}
-use Rattle.command.specs.declared.judge.Judgement.the-variants.{Refuse}
-use Rattle.command.proofs.Holding.{held-most}
-use Rattle.command.proofs.Judged.{judge-faults, judge-fits, judge-none}
+use Rattle.judging.specs.declared.judge.Codes.{Codes}
+use Rattle.judging.specs.declared.judge.Judgement.the-variants.{Refuse}
+use Rattle.judging.proofs.Judged.{judge-faults, judge-fits, judge-none}
 use Rattle.command.proofs.judge.judge.Statement.{statement}
 use Rattle.command.proofs.judge.judge.Tie as tie
 use Rattle.command.proofs.judge.judge.Reads as reads
@@ -30,9 +29,7 @@ find-requires : tie.Need-find-requires
 find-requires c κs = search needs
 
 faults-requires : tie.Need-faults-requires
-faults-requires c κs =
-    let s = c .before .before in
-    held-most (s .args .t) (now (s .args .hold)) (s .pre .0) (s .pre .1)
+faults-requires c κs = search needs
 
 any-requires : tie.Need-any-requires
 any-requires c κs = search needs

@@ -12,7 +12,7 @@ use Rattle.packet.proofs.Numbers.{bytes-at}
 use Rattle.settings.specs.Settings.{factory}
 use Rattle.settings.specs.declared.settings.Settings.{Settings}
 use Rattle.settings.proofs.Keeping.{kept-factory, in-rule-of}
-use Rattle.command.specs.Playing.{play, clean}
+use Rattle.judging.specs.Playing.{play, clean}
 use Rattle.tuning.specs.Records.{Good}
 use Rattle.tuning.specs.Report.{Trials, readTrials, readHead}
 use Rattle.layout.specs.Found.{outOf, winnerAt}

@@ -16,8 +16,9 @@ use Rattle.packet.specs.Packet.{writeResponse}
 use Rattle.packet.specs.Receiving.{fresh, zeros}
 use Rattle.settings.specs.Settings.{settingsInRule}
 use Rattle.settings.specs.declared.settings.Settings.{Settings}
-use Rattle.command.specs.Playing.{play, clean}
-use Rattle.command.specs.Calls.{Answers, outcomeOf, noTransfer, After, receiveCall}
+use Rattle.judging.specs.Playing.{play, clean}
+use Rattle.judging.specs.Held.{noTransfer}
+use Rattle.command.specs.Calls.{Answers, outcomeOf, After, receiveCall}
 use Rattle.command.specs.declared.controller.Controller.{Controller}
 use Rattle.command.specs.declared.endpoint.Answer.{Answer}
 use Rattle.command.specs.declared.endpoint.Answer.the-variants.{Waiting, Answered, ShortOutput, OutOfRule}

@@ -6,7 +6,7 @@ use mathlib.Core.List.{List}
 use native.Mathlib.Omega.{arith}
 use denote.Ref.{now}
 use lib.ListN.{length, take, drop}
-use Rattle.command.specs.Playing.{play}
+use Rattle.judging.specs.Playing.{play}
 use Rattle.tuning.specs.Records.{reading}
 use Rattle.layout.specs.Found.{pieceOf, endOf}
 use Rattle.layout.specs.declared.record.Outcome.{Outcome}

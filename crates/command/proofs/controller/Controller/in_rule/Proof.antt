@@ -5,7 +5,7 @@ use Rattle.command.proofs.controller.Controller.in_rule.Statement.{stat
 use Rattle.command.proofs.controller.Controller.in_rule.Tie as tie
 use Rattle.command.proofs.controller.Controller.in_rule.Reads as reads
 use Rattle.command.proofs.controller.Controller.in_rule.Lts as lts
-use Rattle.command.proofs.controller.TransferState.in_rule.Reads as in-rule-reads
+use Rattle.judging.proofs.transfer.TransferState.in_rule.Reads as in-rule-reads
 use Rattle.command.proofs.controller.packet_in_rule.Reads as packet-in-rule-reads
 
 settings-in-rule-requires : tie.Need-settings-in-rule-requires

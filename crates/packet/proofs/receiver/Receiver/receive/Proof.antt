@@ -1,164 +1,40 @@
--- `Receiver::receive` meets its contract. The loop's invariant: what is left of the input gives the same, with the bytes passed counted.
-use mathlib.Core.Path.{_≡_, refl, sym, ap, _∙_}
-use Prim.Native.Nat.{_≤_, _<_, _-_, _+_}
-use native.Mathlib.Omega.{arith}
-use lib.ListN.{length, drop}
+-- `Receiver::receive` meets its contract.
+use Prim.Native.Nat.{ℕ}
+use mathlib.Core.Path.{_≡_, refl, sym, ap, ap₂, _∙_}
+use mathlib.Core.List.{List}
+use denote.Ref.{now}
+use lib.ListN.{length}
 use Rattle.packet.specs.Receiving.{receiving}
-use Rattle.packet.proofs.Receiving.{Made, made-more, after, after-none, one-more, take-checksum, take-nothing, with-header, with-held, with-dropped}
+use Rattle.packet.specs.Taking.{takenFrom, keptFrom}
+use Rattle.packet.specs.declared.taking.Taken.{Taken}
+use Rattle.packet.proofs.Lent.{together, received-from}
 use borrow.Author.Needs.{needs}
 use Rattle.packet.proofs.receiver.Receiver.receive.Statement.{statement}
 use Rattle.packet.proofs.receiver.Receiver.receive.Tie as tie
 use Rattle.packet.proofs.receiver.Receiver.receive.Reads as reads
 use Rattle.packet.proofs.receiver.Receiver.receive.Lts as lts
-use Rattle.packet.proofs.number.word.Reads as word-reads
-use Rattle.std.proofs.num.wrapping_add_u8.Reads as wrapping-add-u8-reads
+use Rattle.packet.proofs.taking.put_header.Reads as put-header-reads
+use Rattle.packet.proofs.taking.take.Reads as take-reads
 
-abbrev Inv-loop : tie.InvT-loop
-Inv-loop held input self₀ i₀ self i =
-    (i ≤ length input) × Made self × (receiving self₀ held input ≡ after i (receiving self held (drop i input)))
+put-header-requires : tie.Need-put-header-requires
+put-header-requires c κs = search needs
 
-abbrev μ-loop : tie.MeasureT-loop
-μ-loop held input self₀ i₀ self i = length input - i
+take-requires : tie.Need-take-requires
+take-requires c κs = search needs
 
-loop-holds : tie.Need-loop-holds Inv-loop μ-loop
-loop-holds c =
-    let a = c .before .args in (
-      omega arith,
-      record { header = search needs; hold = search needs; sum = search needs },
-      sym (after-none (receiving (a .t1) (a .held) (a .input .now))),
-    )
+together-eq : {h h′ d d′ : List ℕ} {t t′ : Taken} → h ≡ h′ → d ≡ d′ → t ≡ t′ → together h d t ≡ together h′ d′ t′
+together-eq e f g = cc
 
-shared-slice-read-b : tie.Need-shared-slice-read-b Inv-loop μ-loop
-shared-slice-read-b c = search needs
-
-add-i : tie.Need-add-i Inv-loop μ-loop
-add-i c = search needs
-
-element-copy-out-word : tie.Need-element-copy-out-word Inv-loop μ-loop
-element-copy-out-word c = search needs
-
-element-copy-out-word-2 : tie.Need-element-copy-out-word-2 Inv-loop μ-loop
-element-copy-out-word-2 c = search needs
-
-word-requires : tie.Need-word-requires Inv-loop μ-loop
-word-requires c κs = search needs
-
-add-if1 : tie.Need-add-if1 Inv-loop μ-loop
-add-if1 c = search needs
-
-returns : tie.Need-returns Inv-loop μ-loop
+returns : tie.Need-returns
 returns c =
-    let w = c .before .before .before .before .before .before in
-    let a = w .before .before .args in
-    let m = w .loop .inv .1 in
-    sym
-    (w .loop .inv .2
-    ∙ ap (after (w .loop .i)) (take-checksum (w .loop .self) (a .held) (a .input .now) (w .loop .i) (m .header) (m .sum) (omega arith) (omega arith)))
-
-wrapping-add-u8-requires : tie.Need-wrapping-add-u8-requires Inv-loop μ-loop
-wrapping-add-u8-requires c κs = search needs
-
-add-self : tie.Need-add-self Inv-loop μ-loop
-add-self c = search needs
-
-element-write-self : tie.Need-element-write-self Inv-loop μ-loop
-element-write-self c = search needs
-
-loop-less : tie.Need-loop-less Inv-loop μ-loop
-loop-less c = search needs
-
-loop-again : tie.Need-loop-again Inv-loop μ-loop
-loop-again c =
-    let w = c .before .before .before .before .before .before .before .before in
-    let a = w .before .before .args in
-    let m = w .loop .inv .1 in
-    let e = with-header (w .loop .self) (a .held) _ (c .if2 .taken) (c .before .wrapping-add-u8 .ensures) in (
-      omega arith,
-      made-more (w .loop .self) (a .held) _ m e,
-      w .loop .inv .2 ∙ one-more (w .loop .self) (a .held) (a .input .now) (w .loop .i) (m .header) (omega arith) (omega arith) e,
-    )
-
-add-at : tie.Need-add-at Inv-loop μ-loop
-add-at c = search needs
-
-element-write-self-2 : tie.Need-element-write-self-2 Inv-loop μ-loop
-element-write-self-2 c = search needs
-
-loop-less-2 : tie.Need-loop-less-2 Inv-loop μ-loop
-loop-less-2 c = search needs
-
-loop-again-2 : tie.Need-loop-again-2 Inv-loop μ-loop
-loop-again-2 c =
-    let w = c .before .before .before .before .before .before .before .before .before .before in
-    let a = w .before .before .args in
-    let m = w .loop .inv .1 in
-    let e = with-held (w .loop .self) (a .held) _ (m .header) (c .before .before .if2 .left) (c .before .before .before .wrapping-add-u8 .ensures) in (
-      omega arith,
-      made-more (w .loop .self) (a .held) _ m e,
-      w .loop .inv .2 ∙ one-more (w .loop .self) (a .held) (a .input .now) (w .loop .i) (m .header) (omega arith) (omega arith) e,
-    )
-
-loop-less-3 : tie.Need-loop-less-3 Inv-loop μ-loop
-loop-less-3 c = search needs
-
-loop-again-3 : tie.Need-loop-again-3 Inv-loop μ-loop
-loop-again-3 c =
-    let w = c .before .before .before .before .before .before .before .before .before .before in
-    let a = w .before .before .args in
-    let m = w .loop .inv .1 in
-    let e = with-dropped (w .loop .self) (a .held) _ (m .header) (c .before .before .if2 .left) (c .before .before .before .wrapping-add-u8 .ensures) (omega (arith, m .hold)) in (
-      omega arith,
-      made-more (w .loop .self) (a .held) _ m e,
-      w .loop .inv .2 ∙ one-more (w .loop .self) (a .held) (a .input .now) (w .loop .i) (m .header) (omega arith) (omega arith) e,
-    )
-
-loop-less-4 : tie.Need-loop-less-4 Inv-loop μ-loop
-loop-less-4 c = search needs
-
-loop-again-4 : tie.Need-loop-again-4 Inv-loop μ-loop
-loop-again-4 c =
-    let w = c .before .before .before .before .before .before .before .before .before in
-    let a = w .before .before .args in
-    let m = w .loop .inv .1 in
-    let e = with-dropped (w .loop .self) (a .held) _ (m .header) (c .before .if2 .left) (c .before .before .wrapping-add-u8 .ensures) (omega (arith, m .hold)) in (
-      omega arith,
-      made-more (w .loop .self) (a .held) _ m e,
-      w .loop .inv .2 ∙ one-more (w .loop .self) (a .held) (a .input .now) (w .loop .i) (m .header) (omega arith) (omega arith) e,
-    )
-
-returns-2 : tie.Need-returns-2 Inv-loop μ-loop
-returns-2 c =
-    let w = c .before in
-    let a = w .before .before .args in
-    sym
-    (w .loop .inv .2
-    ∙ take-nothing (w .loop .self) (a .held) (a .input .now) (w .loop .i) (w .loop .inv .1 .sum) (omega arith))
+    let h = c .before .before .before in
+    let a = h .before .before .before .args in
+    let n : length (a .t1 .header) ≡ 6 = search needs in
+    let e = h .put-header .ensures in
+    together-eq e
+    (c .take .ensures .1 ∙ ap (λ (x : List ℕ). keptFrom x (a .t1 .received) (a .t1 .hold) (a .held) (now (a .input))) e)
+    (c .take .ensures .0 ∙ ap (λ (x : List ℕ). takenFrom x (a .t1 .sum) (a .t1 .received) (now (a .input))) e)
+    ∙ sym (received-from (a .t1) (a .held) (now (a .input)) n)
 
 pub receive-spec : {M : Type 1} → statement M
-receive-spec =
-    tie.close
-    (tie.spec
-    Inv-loop
-    μ-loop
-    loop-holds
-    shared-slice-read-b
-    add-i
-    element-copy-out-word
-    element-copy-out-word-2
-    word-requires
-    add-if1
-    returns
-    wrapping-add-u8-requires
-    add-self
-    element-write-self
-    loop-less
-    loop-again
-    add-at
-    element-write-self-2
-    loop-less-2
-    loop-again-2
-    loop-less-3
-    loop-again-3
-    loop-less-4
-    loop-again-4
-    returns-2)
+receive-spec = tie.close (tie.spec put-header-requires take-requires returns)

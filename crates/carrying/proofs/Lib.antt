@@ -1,0 +1,2 @@
+-- The laws of carrying out, for the layers above.
+pub mod Emitting

@@ -1,0 +1,2 @@
+-- What the contracts of carrying out cite.
+pub mod Emitting

@@ -1,0 +1,2 @@
+-- What the contracts of the encoder and the standard list cite.
+pub mod Encoding

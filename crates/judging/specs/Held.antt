@@ -1,0 +1,61 @@
+-- An open transfer by the controller's numbers: its held data are the first bytes of the hold.
+use Prim.Native.Nat.{ℕ}
+use mathlib.Core.Bool.{Bool, true, false, cond, not, _&&_, _||_}
+use mathlib.Core.List.{List}
+use lib.Dec.{eqb, leb}
+use lib.ListN.{take, drop}
+use Rattle.packet.specs.Packet.{typeOf, cmd1Of, cmd2Of, flagsOf, payloadLength}
+use Rattle.settings.specs.Table.{cmd1For, cmd2For, hasCode, commandOf, isKnown}
+use Rattle.judging.specs.Judging.{Transfer, Closed, Opened, Arrived}
+use Rattle.settings.specs.declared.command.Found.{Found}
+use Rattle.settings.specs.declared.command.Found.the-variants.{Known, Unknown}
+use Rattle.judging.specs.declared.judge.Judgement.{Judgement}
+use Rattle.judging.specs.declared.judge.Judgement.the-variants.{Refuse, Hold, Write, Read}
+use Rattle.judging.specs.declared.transfer.TransferState.{TransferState}
+
+abbrev pub noTransfer : TransferState
+noTransfer = record { active = 0; cmd1 = 0; cmd2 = 0; held = 0 }
+
+-- how many bytes are held
+abbrev pub heldIn : TransferState → ℕ
+heldIn t = cond (eqb (t .active) 0) 0 (t .held)
+
+abbrev pub openedFor : Found → List ℕ → Transfer
+openedFor Unknown d = Closed
+openedFor (Known c) d = Opened c d
+
+-- the open transfer, its held data being the first bytes of the hold
+abbrev pub transferIn : TransferState → List ℕ → Transfer
+transferIn t hold = cond (eqb (t .active) 0) Closed (openedFor (commandOf (t .cmd1) (t .cmd2)) (take (t .held) hold))
+
+abbrev pub isOpenIn : TransferState → Bool
+isOpenIn t = not (eqb (t .active) 0)
+
+-- a transfer is open for this command, by its bytes
+abbrev pub openForIn : Found → TransferState → Bool
+openForIn Unknown t = false
+openForIn (Known c) t = isOpenIn t && hasCode (t .cmd1) (t .cmd2) c
+
+-- Refusal 3 on a transfer: over 1,024 held bytes, or one open for a command not in the table.
+unfoldable pub transferInRule : TransferState → Bool
+transferInRule t = leb (t .held) 1024 && (eqb (t .active) 0 || isKnown (commandOf (t .cmd1) (t .cmd2)))
+
+-- the complete packet: its header, whether its checksum was right, and its payload behind the n bytes that were held
+abbrev pub packetIn : ℕ → List ℕ → Bool → List ℕ → Arrived
+packetIn n header right hold =
+    record {
+      type = typeOf header;
+      cmd1 = cmd1Of header;
+      cmd2 = cmd2Of header;
+      flags = flagsOf header;
+      size = payloadLength header;
+      right = right;
+      body = take (payloadLength header) (drop n hold);
+    }
+
+-- the transfer afterwards, n bytes being held then
+abbrev pub transferStateAfter : TransferState → ℕ → Judgement → TransferState
+transferStateAfter t n (Refuse k) = noTransfer
+transferStateAfter t n (Hold c) = record { active = 1; cmd1 = cmd1For c; cmd2 = cmd2For c; held = n }
+transferStateAfter t n (Write v) = noTransfer
+transferStateAfter t n (Read c) = t
