@@ -1,5 +1,5 @@
 -- What a judgement says of its packet, and what it keeps.
-use Prim.Native.Nat.{ℕ, _+_}
+use Prim.Native.Nat.{ℕ, suc, _+_, _*_}
 use mathlib.Core.Path.{_≡_, refl, ap, sym, subst, _∙_}
 use mathlib.Core.Bool.{Bool, true, false, cond, not, _&&_, _||_}
 use mathlib.Core.List.{List, [], _∷_}
@@ -9,12 +9,14 @@ use borrow.Author.Tests.{eqb-true, not-false}
 use lib.ListN.{getD}
 use lib.Count.{onesIn, ones}
 use Rattle.packet.specs.Numbers.{bytesOf}
+use Rattle.packet.specs.Packet.{payload}
 use Rattle.packet.proofs.Cases.{bool-cases, and-left}
-use Rattle.dlpc200_packet.specs.Packet.{write, read, extended, only, packetOf}
+use Rattle.dlpc200_packet.specs.Packet.{write, read, extended, only, checksum, rightSum, packetOf}
 use Rattle.dlpc200_rules.specs.Table.{cmd1For, sizeFor, parkAfter, inRange}
 use Rattle.dlpc200_rules.specs.Status.{bit, data0, data1, faultBits, faultsHeld}
 use Rattle.dlpc200_rules.specs.Judging.{
   Arrived,
+  arrived,
   wrongCmd1,
   wrongSize,
   faultsOf,
@@ -151,6 +153,15 @@ fails p h = rw h
 pub unknown-alone : (p : Arrived) → anyFault (faultsOf p) ≡ false → p .command ≡ Unknown → judge p ≡ Failed noFaults
 unfolding judge judgedBy
 unknown-alone p h k = rw (h, k)
+
+-- CMD3 is not judged: a packet with another is the same to the rules.
+
+six : (n : ℕ) → 6 + n ≡ suc (suc (suc (suc (suc (suc n)))))
+six n = omega arith
+
+pub cmd3-not-judged : (a b c c′ : ℕ) (q : List ℕ) → arrived (a ∷ b ∷ c ∷ q) ≡ arrived (a ∷ b ∷ c′ ∷ q)
+unfolding rightSum payload checksum
+cmd3-not-judged a b c c′ q = rw (six (getD q 1 0 + 256 * getD q 2 0))
 
 -- An unknown command by itself sets bit 6 alone.
 pub bit-6-alone : (data0 noFaults ≡ 0x40) × (data1 noFaults ≡ 0)
