@@ -3,14 +3,15 @@ use lib.Dec.{T}
 use Rattle.packet.specs.Numbers.{bytesOf}
 use Rattle.packet.specs.Packet.{payload, sum}
 use Rattle.packet.specs.Stream.{size, hasPacket, packetsIn, packets}
+use Rattle.packet.specs.Calls.{joined}
 use lib.Count.{onesIn, ones}
 use Rattle.dlpc200_packet.specs.Packet.{checksum, rightSum, packetOf}
 use Rattle.dlpc200_rules.specs.Table.{find, commandOf}
 use Rattle.dlpc200_rules.specs.Status.{data0, data1, faultBits}
 use Rattle.dlpc200_rules.specs.Judging.{commandIn, wrongCmd1, wrongSize, faultsOf, anyFault, judgedBy, judge, response}
 use Rattle.dlpc200.specs.Playing.{judged, answerTo, next, responses, after}
-use Rattle.dlpc200.specs.Examples.{sameList, joinedAll, writeOf, answers, holds, hold, examples}
+use Rattle.dlpc200.specs.Examples.{sameList, writeOf, answers, holds, hold, examples}
 
 pub examples-hold : T (hold examples)
-unfolding bytesOf payload sum size hasPacket packetsIn packets onesIn ones checksum rightSum packetOf find commandOf data0 data1 faultBits commandIn wrongCmd1 wrongSize faultsOf anyFault judgedBy judge response judged answerTo next responses after sameList joinedAll writeOf answers holds hold examples
+unfolding bytesOf payload sum size hasPacket packetsIn packets onesIn ones checksum rightSum packetOf find commandOf data0 data1 faultBits commandIn wrongCmd1 wrongSize faultsOf anyFault judgedBy judge response judged answerTo next responses after sameList joined writeOf answers holds hold examples
 examples-hold = tt

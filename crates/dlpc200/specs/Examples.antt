@@ -7,6 +7,7 @@ use lib.ListN.{length, replicate}
 use Rattle.packet.specs.Numbers.{bytesOf}
 use Rattle.packet.specs.Packet.{sum}
 use Rattle.packet.specs.Stream.{packets}
+use Rattle.packet.specs.Calls.{joined}
 use Rattle.dlpc200_rules.specs.Status.{faultBits}
 use Rattle.dlpc200_rules.specs.declared.states.States.{States}
 use Rattle.dlpc200.specs.Playing.{responses, after}
@@ -31,16 +32,12 @@ sameList [] (y ∷ ys) = false
 sameList (x ∷ xs) [] = false
 sameList (x ∷ xs) (y ∷ ys) = eqb x y && sameList xs ys
 
-unfoldable pub joinedAll : List (List ℕ) → List ℕ
-joinedAll [] = []
-joinedAll (b ∷ bs) = b ++ joinedAll bs
-
 -- a write of these data, its checksum right
 unfoldable pub writeOf : List ℕ → List ℕ
 writeOf d = 0x02 ∷ 0xAA ∷ 0x00 ∷ 0x00 ∷ bytesOf 2 (length d) ++ d ++ ((sum (bytesOf 2 (length d)) + sum d) % 256 ∷ [])
 
 unfoldable pub answers : List ℕ → List ℕ
-answers b = joinedAll (responses states (packets b))
+answers b = joined (responses states (packets b))
 
 unfoldable pub holds : Example → Bool
 holds (Answers b r) = sameList (answers b) r

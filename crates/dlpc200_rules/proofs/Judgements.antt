@@ -10,7 +10,7 @@ use lib.ListN.{getD}
 use lib.Count.{onesIn, ones}
 use Rattle.packet.specs.Numbers.{bytesOf}
 use Rattle.packet.specs.Packet.{payload}
-use Rattle.packet.proofs.Cases.{bool-cases, and-left}
+use Rattle.packet.proofs.Cases.{bool-cases, and-left, or-left, or-right}
 use Rattle.dlpc200_packet.specs.Packet.{write, read, extended, only, checksum, rightSum, packetOf}
 use Rattle.dlpc200_rules.specs.Table.{cmd1For, sizeFor, parkAfter, inRange}
 use Rattle.dlpc200_rules.specs.Status.{bit, data0, data1, faultBits, faultsHeld}
@@ -61,14 +61,6 @@ each P h GetSeqRunState = h .3
 each P h GetEepromFault = h .4
 each P h GetInitFromParallelFlashFail = h .5
 each P h GetOverallLedLampLitState = h .6
-
-or-left : (a b : Bool) → (a || b) ≡ false → a ≡ false
-or-left true b h = h
-or-left false b h = refl
-
-or-right : (a b : Bool) → (a || b) ≡ false → b ≡ false
-or-right true b h = let z : _≡_ {A = ℕ} 0 1 = cc in absurd (omega arith)
-or-right false b h = h
 
 -- A packet is carried out exactly when its command is known and it has none of the faults.
 

@@ -11,7 +11,7 @@ use Rattle.packet.specs.Numbers.{Bytes}
 use Rattle.packet.specs.Packet.{typeOf, cmd1Of, cmd2Of, flagsOf, payloadLength, payload, rightSum, sum, sealed, packetOf, hostWrite, hostRead, readResponse, whole}
 use Rattle.packet.specs.Stream.{packets, rest}
 use Rattle.packet.proofs.Numbers.{bytes-take, bytes-drop}
-use Rattle.packet.proofs.Cases.{cond-cases, bool-cases}
+use Rattle.packet.proofs.Cases.{cond-cases, bool-cases, or-left, or-right}
 use Rattle.packet.proofs.Framing.{IsPacket, packets-nil, rest-nil, packets-cons, rest-cons}
 use Rattle.writer.proofs.Writing.{length-written, size-written, packet-written, payload-written, sum-written, packet-remade}
 use Rattle.values.specs.Fields.{splitAll, joinAll}
@@ -168,14 +168,6 @@ carried-write c mode d v h =
     go true e false b h = absurd (write-is h)
     go true e true true h = absurd (write-is h)
     go true e true false h = record { full = eqb-true (length d) (sizeOf c) e; made = cc }
-
-or-left : (a b : Bool) → (a || b) ≡ false → a ≡ false
-or-left true b h = h
-or-left false b h = refl
-
-or-right : (a b : Bool) → (a || b) ≡ false → b ≡ false
-or-right true b h = let z : _≡_ {A = ℕ} 0 1 = cc in absurd (omega arith)
-or-right false b h = h
 
 -- a packet that is judged without a fault of the first group
 record Faultless (f : Found) (t : Transfer) (p : Arrived) : Type 0 where
