@@ -1,56 +1,11 @@
 // Compares libdlpc200_port.a with the model: every answer, every byte of the output and every field
 // of the device, on the document's packets and on seeded streams, cut anywhere, and devices of any
 // field values. Fails if a fault, a refusal or a command was never met.
+#[path = "../../include/dlpc200.rs"]
+mod dlpc200;
 mod model;
+use dlpc200::{Device, Receiver, States, faults};
 use model::{Answer, Judged, Model};
-
-#[repr(C)]
-#[derive(Clone, Copy, PartialEq, Debug)]
-struct States {
-    park: u8,
-    sequence: u8,
-    eeprom: u8,
-    flash: u8,
-    lit: u8,
-}
-
-#[repr(C)]
-#[derive(Clone, Copy, PartialEq, Debug)]
-struct Receiver {
-    header: [u8; 6],
-    id: [u8; 2],
-    sum: u8,
-    received: usize,
-}
-
-#[repr(C)]
-#[derive(Clone, Copy, PartialEq, Debug)]
-struct Device {
-    states: States,
-    receiver: Receiver,
-}
-
-#[repr(C)]
-#[derive(Clone, Copy, PartialEq, Debug)]
-struct Reply {
-    kind: u8,
-    number: u8,
-    taken: usize,
-    length: usize,
-}
-
-#[repr(C)]
-struct Stepped {
-    device: Device,
-    reply: Reply,
-}
-
-unsafe extern "C" {
-    fn dlpc200_device(states: States) -> Device;
-    fn dlpc200_receive(d: &mut Device, input: *const u8, input_length: usize, out: *mut u8, out_length: usize) -> Reply;
-    fn dlpc200_step(d: Device, input: *const u8, input_length: usize, out: *mut u8, out_length: usize) -> Stepped;
-    fn dlpc200_faults(data0: u8, data1: u8) -> u32;
-}
 
 struct Random(u64);
 
@@ -126,36 +81,34 @@ fn real(m: &Model) -> Device {
     }
 }
 
-fn reply(answer: &Answer) -> Reply {
+fn told(answer: &Answer) -> dlpc200::Answer {
     match *answer {
-        Answer::Refused(number) => Reply { kind: 2, number, taken: 0, length: 0 },
-        Answer::Waiting(taken) => Reply { kind: 0, number: 0, taken, length: 0 },
-        Answer::Answered(taken, length) => Reply { kind: 1, number: 0, taken, length },
+        Answer::Refused(number) => dlpc200::Answer::Refused(number),
+        Answer::Waiting(taken) => dlpc200::Answer::Waiting { taken },
+        Answer::Answered(taken, length) => dlpc200::Answer::Answered { taken, length },
     }
 }
 
 // One call on both sides, and on the real side by value and lent. Gives the bytes taken.
 fn call(m: &mut Model, input: &[u8], room: usize, fill: u8, tally: &mut Tally) -> usize {
     let before = real(m);
-    let length = m.first[4] as usize + 256 * m.first[5] as usize;
     let mut wanted = vec![fill; room];
     let (answer, judged) = m.receive(input, &mut wanted);
-    let length = if judged.is_some() { m.first[4] as usize + 256 * m.first[5] as usize } else { length };
-    tally.answer(&answer, &judged, length);
+    tally.answer(&answer, &judged, u16::from_le_bytes([m.first[4], m.first[5]]) as usize);
 
     let mut lent = before;
     let mut out = vec![fill; room];
-    let got = unsafe { dlpc200_receive(&mut lent, input.as_ptr(), input.len(), out.as_mut_ptr(), out.len()) };
-    assert_eq!((lent, got), (real(m), reply(&answer)), "from {before:?} with {input:02X?}");
+    let got = lent.receive(input, &mut out);
+    assert_eq!((lent, got), (real(m), told(&answer)), "from {before:?} with {input:02X?}");
     assert_eq!(out, wanted, "from {before:?} with {input:02X?}");
 
     let mut out = vec![fill; room];
-    let got = unsafe { dlpc200_step(before, input.as_ptr(), input.len(), out.as_mut_ptr(), out.len()) };
-    assert_eq!((got.device, got.reply), (real(m), reply(&answer)), "by value, from {before:?} with {input:02X?}");
+    let got = before.step(input, &mut out);
+    assert_eq!(got, (real(m), told(&answer)), "by value, from {before:?} with {input:02X?}");
     assert_eq!(out, wanted, "by value, from {before:?} with {input:02X?}");
 
     if let Some(j) = judged {
-        assert_eq!(unsafe { dlpc200_faults(out[6], out[7]) }, j.faults(), "faults of {out:02X?}");
+        assert_eq!(faults(out[6], out[7]), j.faults(), "faults of {out:02X?}");
     }
     match answer {
         Answer::Refused(_) => 0,
@@ -222,13 +175,12 @@ fn worked(tally: &mut Tally) {
         (&[0x04, 0xAA, 0, 0, 2, 0, 0x29, 0, 0x2B], &[0x05, 0xAA, 0, 0, 3, 0, 0, 0, 7, 0x0A]),
         (&[0x04, 0xAA, 0, 0, 2, 0, 0x2A, 0, 0x2C], &[0x05, 0xAA, 0, 0, 3, 0, 0, 0, 1, 0x04]),
     ];
-    let mut d = unsafe { dlpc200_device(States { park: 0, sequence: 1, eeprom: 0, flash: 7, lit: 1 }) };
+    let mut d = Device::new(States { park: 0, sequence: 1, eeprom: 0, flash: 7, lit: 1 });
     let mut m = Model { states: [0, 1, 0, 7, 1], first: [0; 8], count: 0, sum: 0 };
     assert_eq!(d, real(&m));
     for (request, response) in requests {
         let mut out = [0xEE; 64];
-        let got = unsafe { dlpc200_receive(&mut d, request.as_ptr(), request.len(), out.as_mut_ptr(), 64) };
-        assert_eq!(got, Reply { kind: 1, number: 0, taken: 9, length: response.len() });
+        assert_eq!(d.receive(request, &mut out), dlpc200::Answer::Answered { taken: 9, length: response.len() });
         assert_eq!(&out[..response.len()], response);
         assert!(out[response.len()..].iter().all(|b| *b == 0xEE));
         feed(&mut m, request, 0xEE, tally);
@@ -243,7 +195,7 @@ fn main() {
     for d0 in 0..=255u8 {
         for d1 in 0..=255u8 {
             let ones = (0..8).filter(|i| *i != 6 && d0 >> i & 1 == 1).count() + (0..8).filter(|i| d1 >> i & 1 == 1).count();
-            assert_eq!(unsafe { dlpc200_faults(d0, d1) }, ones as u32);
+            assert_eq!(faults(d0, d1), ones as u32);
         }
     }
     for seed in 1..=rounds {

@@ -69,10 +69,8 @@ impl Receiver {
                 self.sum = std::num::wrapping_add_u8(self.sum, b);
                 if received < 6 {
                     self.header[received] = b;
-                } else {
-                    if received < 8 {
-                        self.id[received - 6] = b;
-                    }
+                } else if received < 8 {
+                    self.id[received - 6] = b;
                 }
             }
         }

@@ -1,6 +1,6 @@
 // The DLPC200's calls for C and Rust. No enum crosses, so an answer goes out as numbers.
 //
-// include/dlpc200.h is C's view of this crate.
+// include/dlpc200.h is C's view of this crate, and include/dlpc200.rs Rust's.
 use dlpc200::Answer;
 use dlpc200::Device;
 use dlpc200_rules::States;
