@@ -6,11 +6,11 @@ use mathlib.Core.List.{List, [], _∷_}
 use lib.ListN.{getD}
 use Rattle.dlpc200_packet.specs.Packet.{cmd1Of, readResp, packetOf}
 use Rattle.dlpc200_rules.specs.Table.{parkAfter, inRange}
-use Rattle.dlpc200_rules.specs.Status.{faultBits, faultsHeld, data0, data1}
+use Rattle.dlpc200_status.specs.Status.{faultBits, faultsHeld, data0, data1}
 use Rattle.dlpc200_rules.specs.Judging.{arrived, faultsOf, statesAfter, responseType, responseData, response}
 use Rattle.dlpc200_rules.specs.declared.command.Command.{Command}
 use Rattle.dlpc200_rules.specs.declared.command.Command.the-variants.{ParkDmd, UnparkDmd, GetDmdSoftwareParkState}
-use Rattle.dlpc200_rules.specs.declared.judging.Faults.{Faults}
+use Rattle.dlpc200_status.specs.declared.faults.Faults.{Faults}
 use Rattle.dlpc200_rules.specs.declared.judging.Judgement.{Judgement}
 use Rattle.dlpc200_rules.specs.declared.judging.Judgement.the-variants.{Failed, Done}
 use Rattle.dlpc200_rules.specs.declared.states.States.{States}

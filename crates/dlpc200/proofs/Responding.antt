@@ -15,7 +15,7 @@ use Rattle.packet.proofs.Framing.{IsPacket}
 use Rattle.writer.specs.Writing.{written}
 use Rattle.dlpc200_packet.specs.Packet.{cmd1Of, checksum, rightSum, front, packetOf}
 use Rattle.dlpc200_rules.specs.Table.{shownOf, dataOf}
-use Rattle.dlpc200_rules.specs.Status.{data0, data1}
+use Rattle.dlpc200_status.specs.Status.{data0, data1}
 use Rattle.dlpc200_rules.specs.Judging.{responseType, responseData, response}
 use Rattle.dlpc200_rules.specs.declared.judging.Judgement.{Judgement}
 use Rattle.dlpc200_rules.specs.declared.judging.Judgement.the-variants.{Failed, Done}

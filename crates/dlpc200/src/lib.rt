@@ -8,7 +8,7 @@ mod endpoint;
 mod response;
 
 pub use device::Device;
-pub use dlpc200_rules::fault_count;
+pub use dlpc200_status::fault_count;
 pub use endpoint::Answer;
 pub use endpoint::Step;
 pub use endpoint::receive;

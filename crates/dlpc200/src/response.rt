@@ -73,8 +73,8 @@ pub(crate) fn respond(out: &mut [u8], cmd1: u8, s: States, j: Judgement) -> usiz
         Judgement::Failed(f) => put_status(
             out,
             kind,
-            dlpc200_rules::status0(f),
-            dlpc200_rules::status1(f),
+            dlpc200_status::status0(f),
+            dlpc200_status::status1(f),
         ),
         Judgement::Done(c) => match s.shown(c) {
             Shown::State(v) => put_state(out, kind, v),

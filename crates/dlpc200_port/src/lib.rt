@@ -6,7 +6,7 @@ use dlpc200::Device;
 use dlpc200_rules::States;
 ghost use mathlib.Core.Path.{_≡_};
 ghost use Rattle.dlpc200.specs.Calls.{deviceWith, outcomeOf, receiveCall};
-ghost use Rattle.dlpc200_rules.specs.Status.{faultBits};
+ghost use Rattle.dlpc200_status.specs.Status.{faultBits};
 ghost use Rattle.dlpc200_port.specs.Replies.{replyOf};
 
 // An answer as numbers: kind 0 is "waiting" (taken), 1 "answered" (taken, length) and 2 a refusal

@@ -13,15 +13,13 @@ use Rattle.packet.specs.Packet.{payload}
 use Rattle.packet.proofs.Cases.{bool-cases, and-left, or-left, or-right}
 use Rattle.dlpc200_packet.specs.Packet.{write, read, extended, only, checksum, rightSum, packetOf}
 use Rattle.dlpc200_rules.specs.Table.{cmd1For, sizeFor, parkAfter, inRange}
-use Rattle.dlpc200_rules.specs.Status.{bit, data0, data1, faultBits, faultsHeld}
+use Rattle.dlpc200_status.specs.Status.{anyFault, noFaults, bit, data0, data1, faultBits, faultsHeld}
 use Rattle.dlpc200_rules.specs.Judging.{
   Arrived,
   arrived,
   wrongCmd1,
   wrongSize,
   faultsOf,
-  anyFault,
-  noFaults,
   judgeCommand,
   judgedBy,
   judge,
@@ -43,11 +41,11 @@ use Rattle.dlpc200_rules.specs.declared.command.Command.the-variants.{
 }
 use Rattle.dlpc200_rules.specs.declared.command.Found.{Found}
 use Rattle.dlpc200_rules.specs.declared.command.Found.the-variants.{Known, Unknown}
-use Rattle.dlpc200_rules.specs.declared.judging.Faults.{Faults}
+use Rattle.dlpc200_status.specs.declared.faults.Faults.{Faults}
 use Rattle.dlpc200_rules.specs.declared.judging.Judgement.{Judgement}
 use Rattle.dlpc200_rules.specs.declared.judging.Judgement.the-variants.{Failed, Done}
 use Rattle.dlpc200_rules.specs.declared.states.States.{States}
-use Rattle.dlpc200_rules.proofs.Counting.{faults-counted}
+use Rattle.dlpc200_status.proofs.Counting.{faults-counted}
 
 -- what holds of each command of the table holds of all
 each : (P : Command → Type 0)

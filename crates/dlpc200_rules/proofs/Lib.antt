@@ -1,3 +1,2 @@
 -- The laws of the rules, for their own proofs and for the crates above.
-pub mod Counting
 pub mod Judgements

@@ -6,10 +6,10 @@ use lib.Dec.{eqb, ltb}
 use Rattle.packet.specs.Packet.{payloadLength, payload}
 use Rattle.dlpc200_packet.specs.Packet.{cmd1Of, cmd2Of, cmd4Of, idOf, write, read, writeResp, readResp, extended, only, rightSum, packetOf}
 use Rattle.dlpc200_rules.specs.Table.{cmd1For, sizeFor, commandOf, shownOf, dataOf, parkAfter}
-use Rattle.dlpc200_rules.specs.Status.{data0, data1}
+use Rattle.dlpc200_status.specs.Status.{anyFault, noFaults, data0, data1}
 use Rattle.dlpc200_rules.specs.declared.command.Found.{Found}
 use Rattle.dlpc200_rules.specs.declared.command.Found.the-variants.{Known, Unknown}
-use Rattle.dlpc200_rules.specs.declared.judging.Faults.{Faults}
+use Rattle.dlpc200_status.specs.declared.faults.Faults.{Faults}
 use Rattle.dlpc200_rules.specs.declared.judging.Judgement.{Judgement}
 use Rattle.dlpc200_rules.specs.declared.judging.Judgement.the-variants.{Failed, Done}
 use Rattle.dlpc200_rules.specs.declared.states.States.{States}
@@ -68,12 +68,6 @@ faultsOf p =
       cmd4 = not (eqb (p .cmd4) only);
       size = wrongSize (p .command) (p .size);
     }
-
-unfoldable pub anyFault : Faults → Bool
-anyFault f = f .checksum || f .cmd1 || f .cmd2 || f .cmd4 || f .size
-
-abbrev pub noFaults : Faults
-noFaults = record { checksum = false; cmd1 = false; cmd2 = false; cmd4 = false; size = false }
 
 -- with no fault: an unknown command by itself fails, and sets bit 6 alone
 abbrev pub judgeCommand : Found → Judgement

@@ -1,4 +1,3 @@
 -- What the contracts cite, in the order of the source document.
 pub mod Table
-pub mod Status
 pub mod Judging

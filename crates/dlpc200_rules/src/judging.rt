@@ -1,38 +1,15 @@
 // How a complete packet is judged: every fault that holds.
 use crate::command::Command;
 use crate::command::Found;
+use dlpc200_status::Faults;
 ghost use mathlib.Core.Path.{_≡_};
-ghost use Rattle.dlpc200_rules.specs.Judging.{anyFault, arrivedBy, arrivedOf, commandIn, faultsOf, judge as judgeOf, judgedBy, wrongCmd1, wrongSize};
-
-pub struct Faults {
-    pub checksum: bool,
-    pub cmd1: bool,
-    pub cmd2: bool,
-    pub cmd4: bool,
-    pub size: bool,
-}
+ghost use Rattle.dlpc200_rules.specs.Judging.{arrivedBy, arrivedOf, commandIn, faultsOf, judge as judgeOf, judgedBy, wrongCmd1, wrongSize};
 
 pub enum Judgement {
     // The packet failed, with these faults; with none of them its command is unknown.
     Failed(Faults),
     // The command is carried out.
     Done(Command),
-}
-
-impl Faults {
-    pub const NONE: Faults = Faults {
-        checksum: false,
-        cmd1: false,
-        cmd2: false,
-        cmd4: false,
-        size: false,
-    };
-
-    fn any(self) -> bool
-        ensures { λ r. ⌜ r ≡ anyFault self ⌝ }
-    {
-        self.checksum | self.cmd1 | self.cmd2 | self.cmd4 | self.size
-    }
 }
 
 // The command of a packet with so many data bytes, of which these are the first.
@@ -89,7 +66,7 @@ fn judged(faults: Faults, found: Found) -> Judgement
     }
     match found {
         Found::Known(c) => Judgement::Done(c),
-        Found::Unknown => Judgement::Failed(Faults::NONE),
+        Found::Unknown => Judgement::Failed(Faults::none()),
     }
 }
 

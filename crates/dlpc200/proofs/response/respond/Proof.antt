@@ -8,8 +8,8 @@ use Rattle.dlpc200.proofs.response.put_state.Reads as put-state-reads
 use Rattle.dlpc200.proofs.response.put_status.Reads as put-status-reads
 use Rattle.dlpc200.proofs.response.response_type.Reads as response-type-reads
 use Rattle.dlpc200_rules.proofs.states.States.shown.Reads as shown-reads
-use Rattle.dlpc200_rules.proofs.status0.Reads as status0-reads
-use Rattle.dlpc200_rules.proofs.status1.Reads as status1-reads
+use Rattle.dlpc200_status.proofs.status0.Reads as status0-reads
+use Rattle.dlpc200_status.proofs.status1.Reads as status1-reads
 
 response-type-requires : tie.Need-response-type-requires
 response-type-requires c κs = search needs

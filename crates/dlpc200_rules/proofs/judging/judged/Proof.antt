@@ -1,13 +1,14 @@
 -- `judged` meets its contract.
 use mathlib.Core.Path.{_≡_, sym, _∙_}
 use mathlib.Core.Bool.{true, false}
-use Rattle.dlpc200_rules.specs.Judging.{anyFault, judgedBy}
+use Rattle.dlpc200_status.specs.Status.{anyFault}
+use Rattle.dlpc200_rules.specs.Judging.{judgedBy}
 use borrow.Author.Needs.{needs}
 use Rattle.dlpc200_rules.proofs.judging.judged.Statement.{statement}
 use Rattle.dlpc200_rules.proofs.judging.judged.Tie as tie
 use Rattle.dlpc200_rules.proofs.judging.judged.Reads as reads
 use Rattle.dlpc200_rules.proofs.judging.judged.Lts as lts
-use Rattle.dlpc200_rules.proofs.judging.Faults.any.Reads as any-reads
+use Rattle.dlpc200_status.proofs.faults.Faults.any.Reads as any-reads
 
 any-requires : tie.Need-any-requires
 any-requires c κs = search needs
@@ -29,13 +30,16 @@ returns-2 c =
     let e : anyFault (w .before .args .faults) ≡ false = sym (w .any .ensures) ∙ c .before .before .before .if1 .left in
     rw (e, c .before .found .given .1)
 
+none-requires : tie.Need-none-requires
+none-requires c κs = search needs
+
 returns-3 : tie.Need-returns-3
 unfolding judgedBy
 returns-3 c =
-    let w = c .before .before .before in
-    let e : anyFault (w .before .args .faults) ≡ false = sym (w .any .ensures) ∙ c .before .before .if1 .left in
-    rw (e, c .enum-told .given .1)
+    let w = c .before .before .before .before in
+    let e : anyFault (w .before .args .faults) ≡ false = sym (w .any .ensures) ∙ c .before .before .before .if1 .left in
+    rw (e, c .before .enum-told .given .1, c .none .ensures)
 
 pub judged-spec : {M : Type 1} → statement M
 judged-spec =
-    tie.close (tie.spec any-requires returns enum-known-found enum-told returns-2 returns-3)
+    tie.close (tie.spec any-requires returns enum-known-found enum-told none-requires returns-2 returns-3)

@@ -5,8 +5,8 @@ use mathlib.Core.Bool.{Bool, true, false}
 use native.Mathlib.Omega.{arith}
 use lib.Bits.{bitAnd, and-le-l}
 use lib.Count.{onesIn, ones, ones-le}
-use Rattle.dlpc200_rules.specs.Status.{bit, data0, data1, faultBits, faultsHeld}
-use Rattle.dlpc200_rules.specs.declared.judging.Faults.{Faults}
+use Rattle.dlpc200_status.specs.Status.{bit, data0, data1, faultBits, faultsHeld}
+use Rattle.dlpc200_status.specs.declared.faults.Faults.{Faults}
 
 -- two bytes have at most sixteen ones, the first through any mask
 pub count-fits : (a m b : ℕ) → a < 256 → b < 256 → ones (bitAnd a m) + ones b < 2 ^ 32

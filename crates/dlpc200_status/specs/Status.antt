@@ -1,9 +1,15 @@
--- The two status bytes of a response. (The other bits are not applicable and 0.)
+-- The faults of a packet, and the two status bytes of its response. (The other bits are not applicable and 0.)
 use Prim.Native.Nat.{ℕ, _+_}
-use mathlib.Core.Bool.{Bool, cond}
+use mathlib.Core.Bool.{Bool, false, cond, _||_}
 use lib.Bits.{bitAnd}
 use lib.Count.{ones}
-use Rattle.dlpc200_rules.specs.declared.judging.Faults.{Faults}
+use Rattle.dlpc200_status.specs.declared.faults.Faults.{Faults}
+
+unfoldable pub anyFault : Faults → Bool
+anyFault f = f .checksum || f .cmd1 || f .cmd2 || f .cmd4 || f .size
+
+abbrev pub noFaults : Faults
+noFaults = record { checksum = false; cmd1 = false; cmd2 = false; cmd4 = false; size = false }
 
 -- a bit, where its fault holds
 abbrev pub bit : Bool → ℕ → ℕ

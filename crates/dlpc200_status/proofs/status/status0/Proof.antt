@@ -1,11 +1,11 @@
 -- `status0` meets its contract.
-use Rattle.dlpc200_rules.specs.Status.{data0}
+use Rattle.dlpc200_status.specs.Status.{data0}
 use borrow.Author.Needs.{needs}
-use Rattle.dlpc200_rules.proofs.status.status0.Statement.{statement}
-use Rattle.dlpc200_rules.proofs.status.status0.Tie as tie
-use Rattle.dlpc200_rules.proofs.status.status0.Reads as reads
-use Rattle.dlpc200_rules.proofs.status.status0.Lts as lts
-use Rattle.dlpc200_rules.proofs.status.flag.Reads as flag-reads
+use Rattle.dlpc200_status.proofs.status.status0.Statement.{statement}
+use Rattle.dlpc200_status.proofs.status.status0.Tie as tie
+use Rattle.dlpc200_status.proofs.status.status0.Reads as reads
+use Rattle.dlpc200_status.proofs.status.status0.Lts as lts
+use Rattle.dlpc200_status.proofs.status.flag.Reads as flag-reads
 
 flag-requires : tie.Need-flag-requires
 flag-requires c κs = search needs

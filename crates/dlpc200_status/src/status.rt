@@ -1,8 +1,8 @@
 // The two status bytes of a response, Data[0] and Data[1].
-use crate::judging::Faults;
+use crate::faults::Faults;
 ghost use mathlib.Core.Path.{_≡_};
 ghost use Prim.Native.Nat.{_≤_};
-ghost use Rattle.dlpc200_rules.specs.Status.{bit, data0, data1, faultBits};
+ghost use Rattle.dlpc200_status.specs.Status.{bit, data0, data1, faultBits};
 
 fn flag(holds: bool, value: u8) -> u8
     ensures { λ r. ⌜ (r ≡ bit holds value) × (r ≤ value) ⌝ }
