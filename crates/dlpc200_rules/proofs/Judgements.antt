@@ -1,11 +1,11 @@
 -- What a judgement says of its packet, and what it keeps.
-use Prim.Native.Nat.{ℕ, suc, _+_, _*_}
+use Prim.Native.Nat.{ℕ, suc, _+_, _*_, _<_}
 use mathlib.Core.Path.{_≡_, refl, ap, sym, subst, _∙_}
 use mathlib.Core.Bool.{Bool, true, false, cond, not, _&&_, _||_}
 use mathlib.Core.List.{List, [], _∷_}
 use native.Mathlib.Omega.{arith}
 use lib.Dec.{eqb, leb, ltb}
-use borrow.Author.Tests.{eqb-true, not-false}
+use borrow.Author.Tests.{lt-ltb, le-ltb, eqb-true, not-false}
 use lib.ListN.{getD}
 use lib.Count.{onesIn, ones}
 use Rattle.packet.specs.Numbers.{bytesOf}
@@ -143,6 +143,26 @@ fails p h = rw h
 pub unknown-alone : (p : Arrived) → anyFault (faultsOf p) ≡ false → p .command ≡ Unknown → judge p ≡ Failed noFaults
 unfolding judge judgedBy
 unknown-alone p h k = rw (h, k)
+
+-- Under two or over 504 data bytes fail, whatever the command.
+
+under-two : (f : Found) (n : ℕ) → n < 2 → wrongSize f n ≡ true
+unfolding wrongSize
+under-two Unknown n h = rw (lt-ltb n 2 h)
+under-two (Known c) n h = rw (lt-ltb n 2 h)
+
+over-504 : (f : Found) (n : ℕ) → 504 < n → wrongSize f n ≡ true
+unfolding wrongSize
+over-504 Unknown n h = rw (le-ltb n 2 (omega arith), lt-ltb 504 n h)
+over-504 (Known c) n h = rw (le-ltb n 2 (omega arith), lt-ltb 504 n h)
+
+pub short-data : (p : Arrived) → p .size < 2 → faultsOf p .size ≡ true
+unfolding faultsOf
+short-data p h = under-two (p .command) (p .size) h
+
+pub long-data : (p : Arrived) → 504 < p .size → faultsOf p .size ≡ true
+unfolding faultsOf
+long-data p h = over-504 (p .command) (p .size) h
 
 -- CMD3 is not judged: a packet with another is the same to the rules.
 
