@@ -1,30 +1,28 @@
 -- From a packet boundary the receive call follows the judging of packet after packet, over whole streams.
-use Prim.Native.Nat.{ℕ, suc, _+_, _-_, _<_, _≤_}
+use Prim.Native.Nat.{ℕ, suc, _+_, _-_, _≤_}
 use mathlib.Core.Path.{_≡_, refl, ap, ap₂, sym, subst, _∙_}
-use mathlib.Core.Bool.{Bool, true, false, cond}
+use mathlib.Core.Bool.{false}
 use mathlib.Core.List.{List, [], _∷_, _++_}
 use mathlib.Core.Option.{some}
 use native.Mathlib.Omega.{arith}
 use lib.Dec.{ltb}
-use borrow.Author.Tests.{ltb-true, ltb-false, lt-ltb, le-ltb}
-use lib.ListN.{length, getD, take, drop, length-append, length-drop}
+use borrow.Author.Tests.{ltb-false}
+use lib.ListN.{length, take, drop, length-append, length-drop}
 use lib.Seq.{sets, getD-take, take-at, drop-at, length-take-le}
 use Rattle.packet.specs.Packet.{payloadLength, payload}
 use Rattle.packet.specs.Stream.{size, hasPacket, packets, rest}
-use Rattle.packet.specs.Calls.{Call, Served, andThen, callsOn, servedOne, served, joined}
+use Rattle.packet.specs.Calls.{Served, andThen, callsOn, servedOne, served, joined}
 use Rattle.packet.proofs.Cases.{bool-cases}
 use Rattle.packet.proofs.Lists.{sets-whole}
 use Rattle.packet.proofs.Framing.{IsPacket, packets-cons, rest-cons, packets-none, rest-none, packet-induction}
 use Rattle.packet.proofs.Calls.{same-calls}
 use Rattle.writer.specs.Writing.{written}
-use Rattle.dlpc200_packet.specs.Packet.{cmd1Of, cmd2Of, cmd4Of, idOf, rightSum}
-use Rattle.dlpc200_packet.specs.Receiving.{with, receiving}
+use Rattle.dlpc200_packet.specs.Packet.{rightSum}
+use Rattle.dlpc200_packet.specs.Receiving.{with}
 use Rattle.dlpc200_packet.specs.declared.receiver.Receiver.{Receiver}
 use Rattle.dlpc200_packet.specs.declared.receiver.Received.{Received}
 use Rattle.dlpc200_packet.proofs.Receiving.{Made, Between, afterPacket, one, first-of, too-few}
-use Rattle.dlpc200_rules.specs.Table.{commandOf}
-use Rattle.dlpc200_rules.specs.Judging.{Arrived, commandIn, arrivedBy, arrived, judge, statesAfter, response}
-use Rattle.dlpc200_rules.specs.declared.command.Found.{Found}
+use Rattle.dlpc200_rules.specs.Judging.{commandIn, arrivedBy, arrived, judge, statesAfter, response}
 use Rattle.dlpc200_rules.specs.declared.states.States.{States}
 use Rattle.dlpc200.specs.Playing.{judged, answerTo, next, responses, after}
 use Rattle.dlpc200.specs.Calls.{judgedIn, responseIn, After, waiting, answered, ended, receiveCall}

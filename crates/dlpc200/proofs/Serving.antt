@@ -1,7 +1,7 @@
 -- The receive call on a device in rule: it stays in rule, and cutting a stream changes nothing.
-use Prim.Native.Nat.{ℕ, suc, _+_, _-_, _<_, _≤_, max}
+use Prim.Native.Nat.{ℕ, _+_, _-_, _<_, _≤_}
 use mathlib.Core.Path.{_≡_, refl, ap, sym, subst, _∙_}
-use mathlib.Core.Bool.{Bool, true, false, cond, _&&_}
+use mathlib.Core.Bool.{Bool, true, false, cond}
 use mathlib.Core.List.{List, [], _∷_, _++_}
 use mathlib.Core.Option.{Option, none, some}
 use native.Mathlib.Omega.{arith}
@@ -11,12 +11,11 @@ use lib.ListN.{length, take}
 use lib.Seq.{sets}
 use Rattle.packet.specs.Packet.{payloadLength}
 use Rattle.packet.specs.Receiving.{with as packetWith, missing, completed}
-use Rattle.packet.specs.Calls.{Call, Served, servedOne, served, joined}
+use Rattle.packet.specs.Calls.{Call, servedOne, served, joined}
 use Rattle.packet.proofs.Cases.{bool-cases, and-left, and-right, and-both}
 use Rattle.packet.proofs.Receiving.{missing-least}
 use Rattle.packet.proofs.Calls.{Streaming, shifted, in-pieces}
 use Rattle.dlpc200_packet.specs.Receiving.{framedBy, with, taking, receiving}
-use Rattle.dlpc200_packet.specs.declared.receiver.Receiver.{Receiver}
 use Rattle.dlpc200_packet.specs.declared.receiver.Received.{Received}
 use Rattle.dlpc200_packet.proofs.Receiving.{Made, made-with, made-completed, received-none, after, cut, behind, waits, completes, no-bytes}
 use Rattle.dlpc200_rules.specs.Table.{inRange}

@@ -2,17 +2,17 @@
 use mathlib.Core.Path.{_≡_, refl, sym, ap, subst, _∙_}
 use mathlib.Core.List.{List, [], _∷_, _++_}
 use mathlib.Core.Bool.{Bool, true, false, cond, _&&_}
-use Prim.Native.Nat.{ℕ, suc, _+_, _-_, _*_, _%_, _<_, _≤_}
+use Prim.Native.Nat.{ℕ, _+_, _-_, _%_, _<_, _≤_}
 use native.Mathlib.Nat.{add-zero, zero-add, add-assoc}
 use native.Mathlib.Numerals.{add-one}
 use native.Mathlib.Omega.{arith}
 use lib.Dec.{eqb, ltb}
 use borrow.Author.Tests.{ltb-true, ltb-false}
-use lib.ListN.{length, getD, drop, take, set, length-append, drop-of-length-le, List·getD-append}
+use lib.ListN.{length, getD, drop, take, set, drop-of-length-le, List·getD-append}
 use lib.Seq.{sets, length-sets, drop-cons, drop-nil, take-append-add, take-append-le, drop-append-add, drop-append-le, getD-append-add, getD-drop}
 use Rattle.packet.specs.Packet.{payloadLength, payload, sum}
 use Rattle.packet.specs.Stream.{size, hasPacket}
-use Rattle.packet.specs.Receiving.{with as packetWith, between, missing, waiting, completed, receiving as packetReceiving}
+use Rattle.packet.specs.Receiving.{with as packetWith, missing, waiting, completed, receiving as packetReceiving}
 use Rattle.packet.specs.declared.receiver.Receiver.{Receiver as PacketReceiver}
 use Rattle.packet.specs.declared.receiver.Received.{Received as PacketReceived}
 use Rattle.packet.proofs.Cases.{bool-cases}
@@ -32,7 +32,6 @@ use Rattle.packet.proofs.Receiving.{
   with-held,
   with-dropped,
   Between as PacketBetween,
-  one as packetOne,
   first-of as packet-first-of,
   too-few as packet-too-few,
 }

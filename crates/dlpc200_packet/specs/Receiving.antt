@@ -1,9 +1,9 @@
 -- The receiver: what it is after some bytes, and when a packet is complete. A receiver of any field values is answered.
 use Prim.Native.Nat.{ℕ, _+_, _-_, _%_}
-use mathlib.Core.Bool.{Bool, true, false, cond, _&&_}
+use mathlib.Core.Bool.{cond, _&&_}
 use mathlib.Core.List.{List}
 use lib.Dec.{eqb}
-use lib.ListN.{length, getD, take, drop, replicate}
+use lib.ListN.{getD, take, drop, replicate}
 use Rattle.packet.specs.Packet.{sum}
 use Rattle.packet.specs.Receiving.{with as packetWith, receiving as packetReceiving}
 use Rattle.packet.specs.declared.receiver.Receiver.{Receiver as PacketReceiver}

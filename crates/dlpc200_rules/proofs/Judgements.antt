@@ -1,6 +1,6 @@
 -- What a judgement says of its packet, and what it keeps.
 use Prim.Native.Nat.{ℕ, suc, _+_, _*_, _<_}
-use mathlib.Core.Path.{_≡_, refl, ap, sym, subst, _∙_}
+use mathlib.Core.Path.{_≡_, refl, ap, sym, _∙_}
 use mathlib.Core.Bool.{Bool, true, false, cond, not, _&&_, _||_}
 use mathlib.Core.List.{List, [], _∷_}
 use native.Mathlib.Omega.{arith}
@@ -13,7 +13,7 @@ use Rattle.packet.specs.Packet.{payload}
 use Rattle.packet.proofs.Cases.{bool-cases, and-left, or-left, or-right}
 use Rattle.dlpc200_packet.specs.Packet.{write, read, extended, only, checksum, rightSum, packetOf}
 use Rattle.dlpc200_rules.specs.Table.{cmd1For, sizeFor, parkAfter, inRange}
-use Rattle.dlpc200_status.specs.Status.{anyFault, noFaults, bit, data0, data1, faultBits, faultsHeld}
+use Rattle.dlpc200_status.specs.Status.{anyFault, noFaults, data0, data1, faultBits, faultsHeld}
 use Rattle.dlpc200_rules.specs.Judging.{
   Arrived,
   arrived,

@@ -1,7 +1,7 @@
 -- How a complete packet is judged, what a judgement changes, and the response that it draws.
 use Prim.Native.Nat.{ℕ}
-use mathlib.Core.Bool.{Bool, true, false, cond, not, _&&_, _||_}
-use mathlib.Core.List.{List, [], _∷_, _++_}
+use mathlib.Core.Bool.{Bool, cond, not, _||_}
+use mathlib.Core.List.{List, [], _∷_}
 use lib.Dec.{eqb, ltb}
 use Rattle.packet.specs.Packet.{payloadLength, payload}
 use Rattle.dlpc200_packet.specs.Packet.{cmd1Of, cmd2Of, cmd4Of, idOf, write, read, writeResp, readResp, extended, only, rightSum, packetOf}

@@ -1,6 +1,6 @@
 -- The seven commands: their IDs, the CMD1 and the data size of their packets, and the states that they read.
 use Prim.Native.Nat.{ℕ}
-use mathlib.Core.Bool.{Bool, true, false, cond, _&&_}
+use mathlib.Core.Bool.{Bool, cond, _&&_}
 use mathlib.Core.List.{List, [], _∷_}
 use lib.Dec.{eqb, leb}
 use Rattle.dlpc200_packet.specs.Packet.{write, read}

@@ -11,7 +11,7 @@ use Rattle.packet.specs.Numbers.{Bytes}
 use Rattle.packet.specs.Packet.{typeOf, cmd1Of, cmd2Of, flagsOf, payloadLength, payload, rightSum, sum, sealed, packetOf, hostWrite, hostRead, readResponse, whole}
 use Rattle.packet.specs.Stream.{packets, rest}
 use Rattle.packet.proofs.Numbers.{bytes-take, bytes-drop}
-use Rattle.packet.proofs.Cases.{cond-cases, bool-cases, or-left, or-right}
+use Rattle.packet.proofs.Cases.{cond-cases, bool-cases}
 use Rattle.packet.proofs.Framing.{IsPacket, packets-nil, rest-nil, packets-cons, rest-cons}
 use Rattle.writer.proofs.Writing.{length-written, size-written, packet-written, payload-written, sum-written, packet-remade}
 use Rattle.values.specs.Fields.{splitAll, joinAll}

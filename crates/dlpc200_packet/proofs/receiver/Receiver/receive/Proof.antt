@@ -1,7 +1,6 @@
 -- `Receiver::receive` meets its contract. The loop's invariant: what is left of the input gives the same, with the bytes passed counted.
-use mathlib.Core.Path.{_≡_, refl, sym, ap, subst, _∙_}
-use mathlib.Core.List.{[], _∷_}
-use Prim.Native.Nat.{_≤_, _<_, _-_, _+_}
+use mathlib.Core.Path.{_≡_, sym, ap, _∙_}
+use Prim.Native.Nat.{_≤_, _-_}
 use native.Mathlib.Omega.{arith}
 use lib.ListN.{length, drop}
 use Rattle.dlpc200_packet.specs.Receiving.{receiving}
