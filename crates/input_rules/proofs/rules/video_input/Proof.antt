@@ -1,10 +1,10 @@
 -- `video_input` meets its contract.
 use mathlib.Core.Path.{refl}
 use Rattle.settings.specs.Table.{allowed, listed}
-use Rattle.rules.proofs.rules.video_input.Statement.{statement}
-use Rattle.rules.proofs.rules.video_input.Tie as tie
-use Rattle.rules.proofs.rules.video_input.Reads as reads
-use Rattle.rules.proofs.rules.video_input.Lts as lts
+use Rattle.input_rules.proofs.rules.video_input.Statement.{statement}
+use Rattle.input_rules.proofs.rules.video_input.Tie as tie
+use Rattle.input_rules.proofs.rules.video_input.Reads as reads
+use Rattle.input_rules.proofs.rules.video_input.Lts as lts
 
 returns : tie.Need-returns
 unfolding allowed listed
