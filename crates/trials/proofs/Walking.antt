@@ -20,13 +20,13 @@ use Rattle.command.specs.Judging.{arrived, judge}
 use Rattle.command.specs.Playing.{State, from, judged, next, after, play}
 use Rattle.command.proofs.Judgements.{sound}
 use Rattle.command.proofs.Plays.{kept-judgement}
-use Rattle.tuning.specs.Records.{Out, Bad, Good, _>>=_, _>>_, need, Piece, reading}
+use Rattle.records.specs.Records.{Out, Bad, Good, _>>=_, _>>_, need, Piece, reading}
 use Rattle.tuning.specs.Report.{Trial, Trials, readTrials, scoreAt, endFrom}
 use Rattle.tuning.proofs.Flat.{bind-bind}
 use Rattle.tuning.proofs.Trials.{onto, lowest-stays, lowest-new, score-front, score-last, endAll, end-front, end-last, end-all}
-use Rattle.layout.specs.declared.record.Outcome.{Outcome}
-use Rattle.layout.specs.declared.record.Outcome.the-variants.{Value, Refused}
-use Rattle.layout.proofs.Steps.{wordAt, word-of, part-length, part-front, part-back}
+use Rattle.records.specs.declared.record.Outcome.{Outcome}
+use Rattle.records.specs.declared.record.Outcome.the-variants.{Value, Refused}
+use Rattle.records.proofs.Parts.{wordAt, word-of, part-length, part-front, part-back}
 use Rattle.trials.specs.Found.{before, TrialIs, TrialRead, First, BestOf}
 
 -- the number in the four bytes at a place

@@ -6,11 +6,11 @@ use lib.ListN.{length, drop}
 use Rattle.settings.specs.Settings.{factory}
 use Rattle.settings.specs.declared.settings.Settings.{Settings}
 use Rattle.command.specs.Playing.{play}
-use Rattle.tuning.specs.Records.{Out, Bad, Good, _>>=_}
+use Rattle.records.specs.Records.{Out, Bad, Good, _>>=_}
 use Rattle.tuning.specs.Report.{Trial, Trials, readTrials, scoreAt, endFrom}
 use Rattle.tuning.specs.Claim.{FirstLowest}
-use Rattle.layout.specs.declared.record.Outcome.{Outcome}
-use Rattle.layout.specs.declared.record.Outcome.the-variants.{Value, Refused}
+use Rattle.records.specs.declared.record.Outcome.{Outcome}
+use Rattle.records.specs.declared.record.Outcome.the-variants.{Value, Refused}
 
 -- one trial in front of those that are read behind it
 abbrev pub before : Trial → Trials → Trials

@@ -1,8 +1,8 @@
 // The trials of a report, in one pass: the first of the lowest-scored, and where it ended.
-use crate::player::play;
-use layout::Outcome;
-use layout::record_at;
-use layout::refusal;
+use player::play;
+use records::Outcome;
+use records::record_at;
+use records::refusal;
 use settings::Settings;
 ghost use mathlib.Core.Path.{_≡_};
 ghost use mathlib.Core.Bool.{true};

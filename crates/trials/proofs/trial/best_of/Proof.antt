@@ -9,7 +9,7 @@ use denote.Ref.{now}
 use Rattle.settings.specs.Settings.{factory, settingsInRule}
 use Rattle.settings.specs.declared.settings.Settings.{Settings}
 use Rattle.settings.proofs.Keeping.{kept-factory, in-rule-of}
-use Rattle.layout.specs.declared.record.Outcome.{Outcome}
+use Rattle.records.specs.declared.record.Outcome.{Outcome}
 use Rattle.trials.specs.Found.{TrialRead, TrialIs}
 use Rattle.trials.specs.declared.trial.Ends.{Ends}
 use Rattle.trials.proofs.Walking.{Walked, walked-start, walked-better, walked-other, walked-by, walked-missed, walked-end, rule-trial}

@@ -7,32 +7,26 @@ use native.Mathlib.Omega.{arith}
 use denote.Ref.{now}
 use lib.ListN.{length, take, drop}
 use Rattle.command.specs.Playing.{play}
-use Rattle.tuning.specs.Records.{reading}
-use Rattle.layout.specs.Found.{pieceOf, endOf}
-use Rattle.layout.specs.declared.record.Outcome.{Outcome}
-use Rattle.layout.specs.declared.record.Outcome.the-variants.{Value}
+use Rattle.records.proofs.Records.{ReadAt}
+use Rattle.records.specs.declared.record.Outcome.the-variants.{Value}
 use Rattle.trials.proofs.Walking.{no-trial, trial-missed, trial-13, trial-is}
 use borrow.Author.Needs.{needs}
 use Rattle.trials.proofs.trial.trial_at.Statement.{statement}
 use Rattle.trials.proofs.trial.trial_at.Tie as tie
 use Rattle.trials.proofs.trial.trial_at.Reads as reads
 use Rattle.trials.proofs.trial.trial_at.Lts as lts
-use Rattle.layout.proofs.record_at.Reads as record-at-reads
-use Rattle.layout.proofs.refusal.Reads as refusal-reads
+use Rattle.records.proofs.record_at.Reads as record-at-reads
+use Rattle.records.proofs.refusal.Reads as refusal-reads
 use Rattle.packet.proofs.word.Reads as word-reads
-use Rattle.trials.proofs.player.play.Reads as play-reads
+use Rattle.player.proofs.play.Reads as play-reads
 
 abbrev reportIn : tie.After-shared-slice-known → List ℕ
 reportIn c = now (c .before .args .r)
 
--- what the record's reading gave
-abbrev ReadAt : List ℕ → ℕ → Outcome → Type 0
-ReadAt r at o = (pieceOf r at o ≡ reading 2 at (drop at r)) × (endOf at o ≤ length r)
-
-found-trial : (c : tie.After-due) → let k = c .before .before .before in ReadAt (reportIn k) (k .before .args .at) (Value (c .due .given .0 .0))
+found-trial : (c : tie.After-due) → let k = c .before .before .before in ReadAt (reportIn k) 2 (k .before .args .at) (Value (c .due .given .0 .0))
 found-trial c =
     let k = c .before .before .before in
-    subst (ReadAt (reportIn k) (k .before .args .at)) (c .due .given .1) (c .before .before .record-at .ensures)
+    subst (ReadAt (reportIn k) 2 (k .before .args .at)) (c .due .given .1) (c .before .before .record-at .ensures)
 
 record-at-requires : tie.Need-record-at-requires
 record-at-requires c κs = search needs
@@ -49,7 +43,7 @@ returns c =
     let k = p .before in
     let a = k .before .args in
     let o = c .enum-told .given in
-    no-trial (reportIn k) (a .at) (a .s) _ _ (o .1) (trial-missed (reportIn k) (a .at) (sym (subst (ReadAt (reportIn k) (a .at)) (o .1) (p .record-at .ensures) .0)))
+    no-trial (reportIn k) (a .at) (a .s) _ _ (o .1) (trial-missed (reportIn k) (a .at) (sym (subst (ReadAt (reportIn k) 2 (a .at)) (o .1) (p .record-at .ensures) .0)))
 
 add-next : tie.Need-add-next
 add-next c = omega (arith, found-trial (c .before) .1)
