@@ -1,7 +1,7 @@
 // The trials of a tuning report: the first of the lowest-scored, found in one pass.
 //
 // The contract cites `specs/Found`, and the definitions of the crate tuning.
-mod trial;
+mod best;
 
-pub use trial::Best;
-pub use trial::best_of;
+pub use best::Best;
+pub use best::best_of;

@@ -1,24 +1,20 @@
 -- `trial_at` meets its contract.
-use Prim.Native.Nat.{ℕ, _+_, _-_, _≤_}
-use mathlib.Core.Path.{_≡_, sym, ap, _∙_, subst}
-use mathlib.Core.Bool.{Bool, cond}
+use Prim.Native.Nat.{ℕ, _+_}
+use mathlib.Core.Path.{sym, subst}
 use mathlib.Core.List.{List}
 use native.Mathlib.Omega.{arith}
 use denote.Ref.{now}
-use lib.ListN.{length, take, drop}
-use Rattle.command.specs.Playing.{play}
 use Rattle.records.proofs.Records.{ReadAt}
 use Rattle.records.specs.declared.record.Outcome.the-variants.{Value}
-use Rattle.trials.proofs.Walking.{no-trial, trial-missed, trial-13, trial-is}
+use Rattle.trial.proofs.Steps.{no-trial, trial-missed, trial-13, trial-is}
 use borrow.Author.Needs.{needs}
-use Rattle.trials.proofs.trial.trial_at.Statement.{statement}
-use Rattle.trials.proofs.trial.trial_at.Tie as tie
-use Rattle.trials.proofs.trial.trial_at.Reads as reads
-use Rattle.trials.proofs.trial.trial_at.Lts as lts
+use Rattle.trial.proofs.trial.trial_at.Statement.{statement}
+use Rattle.trial.proofs.trial.trial_at.Tie as tie
+use Rattle.trial.proofs.trial.trial_at.Reads as reads
+use Rattle.trial.proofs.trial.trial_at.Lts as lts
 use Rattle.records.proofs.record_at.Reads as record-at-reads
 use Rattle.records.proofs.refusal.Reads as refusal-reads
 use Rattle.packet.proofs.word.Reads as word-reads
-use Rattle.player.proofs.play.Reads as play-reads
 
 abbrev reportIn : tie.After-shared-slice-known → List ℕ
 reportIn c = now (c .before .args .r)
@@ -43,7 +39,7 @@ returns c =
     let k = p .before in
     let a = k .before .args in
     let o = c .enum-told .given in
-    no-trial (reportIn k) (a .at) (a .s) _ _ (o .1) (trial-missed (reportIn k) (a .at) (sym (subst (ReadAt (reportIn k) 2 (a .at)) (o .1) (p .record-at .ensures) .0)))
+    no-trial (reportIn k) (a .at) (o .1) (trial-missed (reportIn k) (a .at) (sym (subst (ReadAt (reportIn k) 2 (a .at)) (o .1) (p .record-at .ensures) .0)))
 
 add-next : tie.Need-add-next
 add-next c = omega (arith, found-trial (c .before) .1)
@@ -60,7 +56,7 @@ returns-2 c =
     let k = d .before .before .before in
     let a = k .before .args in
     let f = found-trial d in
-    no-trial (reportIn k) (a .at) (a .s) _ _ (c .refusal .ensures) (trial-13 (reportIn k) (a .at) (d .due .given .0 .0) (f .1) (sym (f .0)) (c .before .if1 .taken))
+    no-trial (reportIn k) (a .at) (c .refusal .ensures) (trial-13 (reportIn k) (a .at) (d .due .given .0 .0) (f .1) (sym (f .0)) (c .before .if1 .taken))
 
 add-word : tie.Need-add-word
 add-word c = omega (arith, found-trial (c .before .before) .1)
@@ -100,40 +96,22 @@ shared-slice-read-word-4 c =
 word-requires-2 : tie.Need-word-requires-2
 word-requires-2 c κs = search needs
 
-add-play : tie.Need-add-play
-add-play c = omega (arith, found-trial (c .before .before .before .before .before .before .before .before) .1)
+mul-t8 : tie.Need-mul-t8
+mul-t8 c = search needs
 
-sub-play : tie.Need-sub-play
-sub-play c = search needs
-
-part-play-start : tie.Need-part-play-start
-part-play-start c = search needs
-
-part-play-end : tie.Need-part-play-end
-part-play-end c = omega (arith, found-trial (c .before .before .before .before .before .before .before .before) .1)
-
-play-requires : tie.Need-play-requires
-play-requires c κs = search needs
-
-mul-t11 : tie.Need-mul-t11
-mul-t11 c = search needs
-
-add-t16 : tie.Need-add-t16
-add-t16 c = search needs
+add-t13 : tie.Need-add-t13
+add-t13 c = search needs
 
 returns-3 : tie.Need-returns-3
 returns-3 c =
-    let v = c .before .before .before in
-    let w = v .before .before .before in
+    let w = c .before .before .before in
     let e = w .before .before .before in
     let d = e .before .before in
     let k = d .before .before .before in
     let a = k .before .args in
     let f = found-trial d in
     let n = d .due .given .0 .0 in
-    let bytes = take (a .at + 4 + n - (a .at + 8)) (drop (a .at + 8) (reportIn k)) in
-    trial-is (reportIn k) (a .at) n (f .1) (sym (f .0)) (omega (arith, e .if1 .left)) (w .word .ensures .0) (v .word2 .ensures .0)
-    (c .before .play .ensures .0 ∙ ap (λ (x : Bool). cond x (play (a .s) bytes .settings) (a .s)) (k .before .pre))
+    trial-is (reportIn k) (a .at) n (f .1) (sym (f .0)) (omega (arith, e .if1 .left)) (w .word .ensures .0) (c .word2 .ensures .0)
 
 pub trial-at-spec : {M : Type 1} → statement M
 trial-at-spec =
@@ -157,11 +135,6 @@ trial-at-spec =
     add-word-4
     shared-slice-read-word-4
     word-requires-2
-    add-play
-    sub-play
-    part-play-start
-    part-play-end
-    play-requires
-    mul-t11
-    add-t16
+    mul-t8
+    add-t13
     returns-3)
