@@ -41,12 +41,12 @@ pub fn best_of(r: &[u8], count: usize) -> Best
             };
         };
         let played = play(last, &r[at + 8..place]);
-        last = played.settings;
         if (i == 0) | (t.score < score) {
             trial = i;
             score = t.score;
-            best = last;
+            best = played.settings;
         }
+        last = played.settings;
         at = place;
         i += 1;
     }
