@@ -41,12 +41,13 @@ pub fn best_of(r: &[u8], count: usize) -> Best
             };
         };
         let played = play(last, &r[at + 8..place]);
+        let ended = played.settings;
         if (i == 0) | (t.score < score) {
             trial = i;
             score = t.score;
-            best = played.settings;
+            best = ended;
         }
-        last = played.settings;
+        last = ended;
         at = place;
         i += 1;
     }

@@ -39,18 +39,18 @@ trial-in c =
 
 -- one trial more
 again : (c : tie.Joined1 Inv-loop μ-loop)
-    → let p = c .before .before in
+    → let p = c .before .before .before in
     let n = p .before .before .before in
     let l = n .before .before .before .before in
     Walked (now (l .before .before .before .args .r)) (l .loop .i + 1) (n .next .given .0 .0) (p .play .result .settings) (c .if1 .trial) (c .if1 .score) (c .if1 .best)
 again c =
-    let p = c .before .before in
+    let p = c .before .before .before in
     let n = p .before .before .before in
     let l = n .before .before .before .before in
     let w = l .loop .inv .2 in
     let e = played (l .loop .last) (bytesAt (now (l .before .before .before .args .r)) (l .loop .at) (n .next .given .0 .0)) (l .loop .inv .1) (p .play .ensures .0) in
     elim (c .if1 .came) [
-      | inl q ↦ walked-by (q .3) (q .4) (q .2) (walked-better w (trial-in n) e (q .0 .taken))
+      | inl q ↦ walked-by (q .2) (q .3) (q .1) (walked-better w (trial-in n) e (q .0 .taken))
       | inr q ↦ walked-by (q .2) (q .3) (q .1) (walked-other w (trial-in n) e (q .0 .left))
     ]
 
@@ -111,7 +111,7 @@ loop-again c =
     let i = n .before .before .before in
     let l = i .before in
     let bytes = bytesAt (now (l .before .before .before .args .r)) (l .loop .at) (n .next .given .0 .0) in
-    (omega (arith, i .loop-test .taken), rule-played (l .loop .last) bytes (l .loop .inv .1) (p .play .ensures .0), again (c .before))
+    (omega (arith, i .loop-test .taken), rule-played (l .loop .last) bytes (l .loop .inv .1) (p .play .ensures .0), again c)
 
 returns-2 : tie.Need-returns-2 Inv-loop μ-loop
 returns-2 c = walked-end (c .before .loop .inv .2) (omega (arith, c .before .loop .inv .0, c .loop-test .left))
