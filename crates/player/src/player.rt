@@ -1,0 +1,56 @@
+// Playing bytes from given settings, on a fresh receiver.
+use command::Answer;
+use command::Controller;
+use judging::TransferState;
+use packet::Receiver;
+use rules::settings_in_rule;
+use settings::Settings;
+ghost use mathlib.Core.Path.{_≡_};
+ghost use Rattle.player.specs.Played.{endSettings, endClean};
+
+// Where a play ended: the settings, and whether each packet was acknowledged and nothing was left
+// half sent.
+pub struct Played {
+    pub settings: Settings,
+    pub clean: bool,
+}
+
+// Settings out of rule are not played: they stay, and nothing is clean.
+pub fn play(s: Settings, b: &[u8]) -> Played
+    ensures { λ r. ⌜ (r .settings ≡ endSettings s (now (b .entry))) × (r .clean ≡ endClean s (now (b .entry))) ⌝ }
+{
+    if !settings_in_rule(s) {
+        return Played {
+            settings: s,
+            clean: false,
+        };
+    }
+    let mut c = Controller {
+        settings: s,
+        transfer: TransferState::NONE,
+        receiver: Receiver::FRESH,
+    };
+    let mut out = [0u8; 64];
+    let mut good = true;
+    let mut at: usize = 0;
+    while at < b.len() {
+        let step = command::receive(c, &b[at..], &mut out);
+        let answer = step.answer;
+        c = step.controller;
+        match answer {
+            Answer::Answered { taken, length: _ } => {
+                good = good & (out[0] == packet::WRITE_RESPONSE);
+                at += taken;
+            }
+            _ => {
+                at = b.len();
+            }
+        }
+    }
+    let settings = c.settings;
+    let clean = good & (c.transfer.active == 0) & (c.receiver.received == 0);
+    Played {
+        settings: settings,
+        clean: clean,
+    }
+}
