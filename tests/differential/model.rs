@@ -145,7 +145,7 @@ impl Command {
     }
 
     /// Whether data of the command's size are allowed. Run 1 is: mode 4 is another matter.
-    #[inline]
+    #[inline(always)]
     pub fn allows(self, data: &[u8]) -> bool {
         match (self, data) {
             (Mode, &[mode]) => matches!(mode, 0 | 1 | 2 | 4),
@@ -237,7 +237,17 @@ impl Settings {
     /// Every setting allowed, and run 1 only in mode 4.
     #[inline]
     pub fn in_rule(&self) -> bool {
-        Command::ALL.iter().all(|&c| c.allows(self.get(c)))
+        // Written out, so that each command's check is compiled for its place alone.
+        let allowed = |command: Command| command.allows(self.get(command));
+        allowed(Mode)
+            && allowed(Pattern)
+            && allowed(Current)
+            && allowed(Colour)
+            && allowed(Display)
+            && allowed(Input)
+            && allowed(Video)
+            && allowed(Sequence)
+            && allowed(Run)
             && (self.run() == 0 || self.mode() == 4 || planted(14))
     }
 }
@@ -480,13 +490,7 @@ impl Controller {
         }
         let mut rest = input;
         if self.received < HEADER {
-            let (head, tail) = rest.split_at(rest.len().min(HEADER - self.received));
-            self.header[self.received..self.received + head.len()].copy_from_slice(head);
-            if !planted(4) {
-                self.sum = self.sum.wrapping_add(sum(head));
-            }
-            self.received += head.len();
-            rest = tail;
+            rest = self.keep_header(rest);
         }
         if self.received >= HEADER {
             let due = (HEADER + self.length()).saturating_sub(self.received);
@@ -504,9 +508,30 @@ impl Controller {
         Ok(Progress::Waiting { taken: input.len() })
     }
 
+    /// Takes header bytes, and gives what comes after them.
+    #[inline]
+    fn keep_header<'a>(&mut self, input: &'a [u8]) -> &'a [u8] {
+        let (head, tail) = input.split_at(input.len().min(HEADER - self.received));
+        if let Ok(whole) = <&[u8; HEADER]>::try_from(head) {
+            self.header = *whole;
+        } else {
+            for (slot, &byte) in self.header[self.received..].iter_mut().zip(head) {
+                *slot = byte;
+            }
+        }
+        if !planted(4) {
+            self.sum = head.iter().fold(self.sum, |sum, &b| sum.wrapping_add(b));
+        }
+        self.received += head.len();
+        tail
+    }
+
     /// Takes a piece of payload.
     #[inline]
     fn keep(&mut self, payload: &[u8]) {
+        if payload.is_empty() {
+            return;
+        }
         let at = self.state.transfer.held() + (self.received - HEADER);
         if let Some(room) = self.hold.get_mut(at..) {
             let kept = payload.len().min(room.len());
