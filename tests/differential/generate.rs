@@ -232,8 +232,8 @@ fn odd_length(rng: &mut Rng, command: Command, longest: usize) -> usize {
         19 => rng.below(40),
         20 => rng.pick(&[1022, 1023]),
         21 => 1024,
-        22 => 1025,
-        _ => rng.pick(&[65535, 65534, 32768, 1026, 1280, 2048, 4096, 255, 256, 257]),
+        22 => rng.pick(&[1025, 1025, 1026, 2048, 255, 256, 257]),
+        _ => rng.pick(&[65535, 65535, 65534, 32768]),
     };
     length.min(longest)
 }
@@ -427,6 +427,47 @@ pub fn some_packets(rng: &mut Rng, parts: &mut Vec<Vec<u8>>, longest: usize) {
         }
         _ => parts.push(faulty(rng, longest)),
     }
+}
+
+/// Every command's data with one byte at each of its values, the others at the factory's; and every
+/// pair of a listed X and a listed Y, and those beside them.
+pub fn every_value() -> Vec<(Command, Vec<u8>)> {
+    let mut all = Vec::new();
+    for command in Command::ALL {
+        for at in 0..command.size() {
+            for byte in 0..=255 {
+                let mut data = Settings::FACTORY.get(command).to_vec();
+                data[at] = byte;
+                all.push((command, data));
+            }
+        }
+    }
+    for (x, _) in PAIRS {
+        for (_, y) in PAIRS {
+            for (x, y) in [
+                (x, y),
+                (x + 1, y),
+                (x, y + 1),
+                (x - 1, y),
+                (x, y - 1),
+                (y, x),
+            ] {
+                let data = [x.to_le_bytes(), y.to_le_bytes()].concat();
+                all.push((Command::Input, [data, vec![0; 8]].concat()));
+            }
+        }
+    }
+    for depth in 0..=9 {
+        for inversion in 0..=3 {
+            for trigger in 0..=7 {
+                let mut data = vec![depth, 96, inversion, trigger];
+                data.extend([255; 13]);
+                data[16] = 2;
+                all.push((Command::Sequence, data));
+            }
+        }
+    }
+    all
 }
 
 // ---------------------------------------------------------------------------------------------

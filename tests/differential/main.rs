@@ -43,6 +43,8 @@ struct Tally {
     lists: u64,
     reports: u64,
     damaged: u64,
+    /// Payloads of 1,024, of 1,025 and of 65,535 bytes.
+    long: [u64; 3],
     resets: u64,
 }
 
@@ -218,6 +220,18 @@ impl Harness {
         }
     }
 
+    /// Runs a case; one that differs is made smaller and printed, and ends the program.
+    fn hold(&mut self, case: Case, kind: &str, seed: u64) {
+        if self.run(&case).is_ok() {
+            return;
+        }
+        let case = shrink(self, case);
+        let what = self.run(&case).err().unwrap_or_default();
+        println!("DIFFERENT ({kind}, seed {seed}): {what}");
+        show(&case);
+        std::process::exit(1);
+    }
+
     fn run_stream(&mut self, stream: &Stream) -> Result<(), String> {
         let bytes = stream.parts.concat();
         let mut ours = stream.start;
@@ -378,6 +392,87 @@ fn emit_case(rng: &mut Rng) -> Case {
         62 + rng.below(10)
     };
     Case::Encode { cmd, settings, out }
+}
+
+/// One packet for a fresh controller.
+fn single(bytes: Vec<u8>, out: usize) -> Case {
+    Case::Stream(Box::new(Stream {
+        start: Controller::default(),
+        parts: vec![bytes],
+        cuts: vec![ALL],
+        outs: vec![out],
+        canary: 0x3C,
+        reset: false,
+    }))
+}
+
+/// What is few enough to try all of: output lengths, commands, types, flags and single values.
+fn swept() -> impl Iterator<Item = Case> {
+    let factory = Settings::FACTORY;
+    let lengths = (0..=130).flat_map(move |out| {
+        let encode = move |c: Command| Case::Encode {
+            cmd: c.bytes(),
+            settings: factory,
+            out,
+        };
+        let read = |c: Command| generate::packet(4, c.bytes(), 0, &[]);
+        let packets = Command::ALL
+            .map(read)
+            .into_iter()
+            .chain([vec![], vec![2], vec![7; 14]]);
+        let list = Case::List {
+            settings: factory,
+            out,
+        };
+        let calls = packets.map(move |bytes| single(bytes, out));
+        Command::ALL
+            .into_iter()
+            .map(encode)
+            .chain([list])
+            .chain(calls)
+    });
+    let commands = (0..=0xFFFF).flat_map(move |n: u16| {
+        let cmd = n.to_be_bytes();
+        let packet = |kind| single(generate::packet(kind, cmd, 0, &[]), 64);
+        [
+            Case::Encode {
+                cmd,
+                settings: factory,
+                out: 64,
+            },
+            packet(2),
+            packet(4),
+        ]
+    });
+    let kinds = (0..=0xFFFF).map(|n: u16| {
+        let [kind, flags] = n.to_be_bytes();
+        single(generate::packet(kind, [1, 3], flags, &[5]), 64)
+    });
+    let values = generate::every_value()
+        .into_iter()
+        .flat_map(move |(command, data)| {
+            let mut settings = factory;
+            settings.set(command, &data);
+            let mut damaged = Controller::default();
+            damaged.state.settings = settings;
+            let mut start = single(vec![2], 64);
+            if let Case::Stream(stream) = &mut start {
+                stream.start = damaged;
+            }
+            let write = generate::packet(2, command.bytes(), 0, &data);
+            let cmd = command.bytes();
+            [
+                Case::Encode {
+                    cmd,
+                    settings,
+                    out: 64,
+                },
+                Case::List { settings, out: 128 },
+                single(write, 64),
+                start,
+            ]
+        });
+    lengths.chain(commands).chain(kinds).chain(values)
 }
 
 // ---------------------------------------------------------------------------------------------
@@ -665,6 +760,10 @@ fn summary(t: &Tally) {
         t.damaged,
         t.resets
     );
+    println!(
+        "payloads of 1,024 bytes: {}, of 1,025: {}, of 65,535: {}",
+        t.long[0], t.long[1], t.long[2]
+    );
     let codes: Vec<String> = (0..16)
         .filter(|&code| t.codes[code] > 0)
         .map(|code| format!("{code:02X}: {}", t.codes[code]))
@@ -743,29 +842,33 @@ fn main() {
         }
     }
     let mut number = 0;
+    if plant == 0 && !exact {
+        for case in swept() {
+            harness.hold(case, "swept", seed);
+            number += 1;
+        }
+    }
+    let swept = number;
+    harness.tally = Tally::default();
     while harness.tally.packets < count || harness.tally.reports < count / 10 {
         let mut rng = Rng::new(seed, number);
-        let mut cases = Vec::new();
         if harness.tally.packets < count {
             let stream = stream_case(&mut rng);
             harness.tally.damaged += (stream.start != Controller::default()) as u64;
-            cases.push(Case::Stream(Box::new(stream)));
-            cases.push(emit_case(&mut rng));
+            for part in &stream.parts {
+                harness.tally.long[0] += (part.len() == 1024 + 7) as u64;
+                harness.tally.long[1] += (part.len() == 1025 + 7) as u64;
+                harness.tally.long[2] += (part.len() == 65_535 + 7) as u64;
+            }
+            harness.hold(Case::Stream(Box::new(stream)), "stream", seed);
+            harness.hold(emit_case(&mut rng), "emit", seed);
         }
         if harness.tally.reports < count / 10 {
-            cases.push(Case::Report(generate::report(&mut rng)));
-        }
-        for case in cases {
-            if harness.run(&case).is_err() {
-                let case = shrink(&mut harness, case);
-                let what = harness.run(&case).err().unwrap_or_default();
-                println!("DIFFERENT: case {number} of seed {seed}: {what}");
-                show(&case);
-                std::process::exit(1);
-            }
+            harness.hold(Case::Report(generate::report(&mut rng)), "report", seed);
         }
         number += 1;
     }
+    println!("swept: {swept} calls");
     summary(&harness.tally);
     let missing = missing(&harness.tally);
     if !missing.is_empty() {
