@@ -266,7 +266,10 @@ const CHECKSUM: Faults = 1 << 0x09;
 const SIZE: Faults = 1 << 0x0A;
 const CONTINUATION: Faults = 1 << 0x0B;
 
-/// A transfer: its mark (0 for none open), its command and how many bytes of it are held.
+/// A transfer: its mark, its command and how many bytes of it are held. Document 01 leaves to the
+/// layout what memory may hold beside it, so this is the lent controller's: any mark but 0 means open
+/// (docs/DECISIONS.md), an accepted packet of a transfer leaves mark 1, and a write or an error packet
+/// that leaves none open leaves zeros.
 #[derive(Clone, Copy, PartialEq, Eq, Debug)]
 pub struct Transfer {
     pub mark: u8,
@@ -397,12 +400,13 @@ impl State {
                         held: length,
                     };
                 }
-                INTERMEDIATE => self.transfer.held += length,
+                INTERMEDIATE => {
+                    self.transfer.mark = 1;
+                    self.transfer.held += length;
+                }
                 _ => {
                     faults = self.store(command, joined);
-                    if flags == LAST {
-                        self.transfer = Transfer::NONE;
-                    }
+                    self.transfer = Transfer::NONE;
                 }
             }
         }
@@ -474,7 +478,7 @@ impl Controller {
         let transfer = &self.state.transfer;
         let [cmd1, cmd2] = transfer.command;
         let complete = self.received >= HEADER + 1 + self.length() + planted(19) as usize;
-        transfer.held() <= HOLD
+        transfer.held <= HOLD
             && (!transfer.open() || Command::from_bytes(cmd1, cmd2).is_some())
             && !complete
             && self.state.settings.in_rule()
