@@ -358,7 +358,7 @@ fn table(rounds: usize) {
         }
         let rate = best.map(|time| w.amount * times as f64 / time);
         println!(
-            "| {} | {} | {} | {} | {:.2} |",
+            "| {} | {} | {} | {} | {:.3} |",
             w.title,
             w.unit,
             Figure(rate[0]),
