@@ -9,9 +9,6 @@
 mod ffi;
 #[path = "../tests/differential/model.rs"]
 mod model;
-#[cfg(stub)]
-#[path = "../tests/differential/stub.rs"]
-mod stub;
 
 use std::hint::black_box;
 use std::time::Instant;

@@ -11,8 +11,6 @@ mod examples;
 mod ffi;
 mod generate;
 mod model;
-#[cfg(stub)]
-mod stub;
 
 use generate::{Report, Rng};
 use model::{Command, Controller, Settings};
