@@ -29,5 +29,6 @@ refusal-number n p (Long over) = refl
 refusal-number n p (Later m k short fault) = fault-number m k fault
 
 pub told : (r : List ℕ) → Bytes r → (v : Verdict) → v ≡ verdict r → toldBy (verdictOf v) ≡ v
+unfolding toldBy verdictOf
 told r b (Accepted k score s) e = refl
 told r b (Refused n p) e = rw (refusal-number n p (refused-exactly r n p b .0 (sym e)))

@@ -37,10 +37,10 @@ unfoldable pub writeCall : ℕ → ℕ → Settings → List ℕ → encoding.Af
 writeCall cmd1 cmd2 s out = writeFor (commandOf cmd1 cmd2) s out
 
 -- a report: the winner, its score and its end settings, or a refusal's number and place
-abbrev pub verdictOf : tuning.Verdict → Verdict
+unfoldable pub verdictOf : tuning.Verdict → Verdict
 verdictOf (tuning.Accepted k score s) = record { refusal = 0; place = 0; trial = k; score = score; settings = s }
 verdictOf (tuning.Refused n p) = record { refusal = n; place = p; trial = 0; score = 0; settings = factory }
 
 -- what the numbers say: yes exactly where the refusal is 0
-abbrev pub toldBy : Verdict → tuning.Verdict
+unfoldable pub toldBy : Verdict → tuning.Verdict
 toldBy v = cond (eqb (v .refusal) 0) (tuning.Accepted (v .trial) (v .score) (v .settings)) (tuning.Refused (v .refusal) (v .place))

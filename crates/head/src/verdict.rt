@@ -1,5 +1,6 @@
 // The answer to a tuning report.
 use layout::Outcome;
+use report::Checked;
 use settings::Settings;
 ghost use mathlib.Core.Path.{_≡_};
 ghost use Rattle.report.specs.Answers.{verdictIn};
@@ -22,17 +23,21 @@ pub struct Verdict {
 }
 
 // An answer as numbers.
-fn verdict_of(trial: Outcome, score: usize, settings: Settings) -> Verdict
-    ensures { λ v. ⌜ v ≡ verdictOf (verdictIn trial score settings) ⌝ }
+fn verdict_of(c: Checked) -> Verdict
+    ensures { λ v. ⌜ v ≡ verdictOf (verdictIn (c .trial) (c .score) (c .settings)) ⌝ }
 {
+    let trial = c.trial;
     match trial {
-        Outcome::Value(k) => Verdict {
-            refusal: 0,
-            place: 0,
-            trial: k,
-            score: score,
-            settings: settings,
-        },
+        Outcome::Value(k) => {
+            let settings = c.settings;
+            Verdict {
+                refusal: 0,
+                place: 0,
+                trial: k,
+                score: c.score,
+                settings: settings,
+            }
+        }
         Outcome::Refused { number, place } => Verdict {
             refusal: number,
             place: place,
@@ -48,7 +53,5 @@ fn verdict_of(trial: Outcome, score: usize, settings: Settings) -> Verdict
 pub extern "C" fn head_check_report(report: &[u8]) -> Verdict
     ensures { λ v. ⌜ (v ≡ verdictOf (verdictOn (now (report .entry)))) × Demand3 (now (report .entry)) (toldBy v) ⌝ }
 {
-    let c = report::check(report);
-    let trial = c.trial;
-    verdict_of(trial, c.score, c.settings)
+    verdict_of(report::check(report))
 }

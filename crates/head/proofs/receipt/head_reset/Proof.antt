@@ -1,5 +1,4 @@
 -- `head_reset` meets its contract: a walk of its MIR, by hand. `head_fresh` is called, the borrow is opened, what `head_fresh` returned is stored behind the reference, and the borrow is closed at it.
--- Assumes nothing.
 use mathlib.Core.Path.{_≡_, refl}
 use Prim.Native.Nat.{ℕ}
 use mathlib.Core.List.{[], _∷_, List}

@@ -1,5 +1,6 @@
 -- `verdict_of` meets its contract: in each arm the outcome is known.
 use borrow.Author.Needs.{needs}
+use Rattle.head.specs.Answers.{verdictOf}
 use Rattle.head.proofs.verdict.verdict_of.Statement.{statement}
 use Rattle.head.proofs.verdict.verdict_of.Tie as tie
 use Rattle.head.proofs.verdict.verdict_of.Reads as reads
@@ -16,9 +17,11 @@ factory-requires : tie.Need-factory-requires
 factory-requires c κs = search needs
 
 returns : tie.Need-returns
-returns c = rw (c .before .trial .given .1)
+unfolding verdictOf
+returns c = rw (c .before .before .trial .given .1)
 
 returns-2 : tie.Need-returns-2
+unfolding verdictOf
 returns-2 c = rw (c .before .before .trial2 .given .1, c .factory .ensures)
 
 pub verdict-of-spec : {M : Type 1} → statement M
