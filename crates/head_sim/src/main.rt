@@ -98,6 +98,7 @@ fn main() {
             if end == 0 {
                 return;
             }
+            continue;
         }
         let s = serve(c, &buf[at..end]);
         if !s.going {

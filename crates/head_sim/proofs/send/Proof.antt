@@ -1,4 +1,6 @@
 -- `send` meets its contract.
+use mathlib.Core.Path.{sym}
+use lib.Seq.{length-take-le}
 use borrow.Author.Needs.{needs}
 use Rattle.head_sim.proofs.send.Statement.{statement}
 use Rattle.head_sim.proofs.send.Tie as tie
@@ -16,7 +18,7 @@ returns-2 : tie.Need-returns-2
 returns-2 c = search needs
 
 slice-aggregate-write-all : tie.Need-slice-aggregate-write-all
-slice-aggregate-write-all c = ?
+slice-aggregate-write-all c = sym (length-take-le _ _ (c .before .if2 .left))
 
 write-all-requires : tie.Need-write-all-requires
 write-all-requires c κs = search needs
