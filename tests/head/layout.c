@@ -1,7 +1,7 @@
 /*
  * Every size, offset and constant of include/imjarlet.h, against the library. Sizes and offsets are
- * asserted when this is compiled, and printed, to be compared with those of the Rust wrapper. The
- * run then drives the library: what it stores is found in the named fields and nowhere else, what is
+ * asserted when this is compiled, and printed, as layout.rs prints those of the Rust wrapper. The run
+ * then drives the library: what it stores is found in the named fields and nowhere else, what is
  * stored in a named field is what it reads, and each constant is drawn from it.
  */
 #include <stdio.h>
@@ -60,7 +60,7 @@ static void check(int holds, const char *what) {
     checks++;
     if (!holds) {
         failures++;
-        printf("failed: %s\n", what);
+        fprintf(stderr, "failed: %s\n", what);
     }
 }
 
@@ -481,6 +481,6 @@ int main(void) {
     codes_and_lengths();
     reports();
     check(strips_untouched(), "nothing beside the controller is touched");
-    printf("%u checks, %u failed\n", checks, failures);
+    fprintf(stderr, "layout.c: %u checks, %u failed\n", checks, failures);
     return failures != 0;
 }

@@ -89,5 +89,5 @@ fn main() {
     assert_eq!((accepted.trial, accepted.score), (1, 7));
     let refused = check_report(include_bytes!("../../examples/refused.report"));
     assert_eq!(refused, Err(Refused { reason: Reason::OtherSettings, place: 46 }));
-    println!("the wrapper's answers are right");
+    eprintln!("layout.rs: the wrapper's answers are right");
 }
