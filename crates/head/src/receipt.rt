@@ -19,13 +19,6 @@ pub struct Receipt {
     pub length: usize,
 }
 
-// A receipt, and the controller afterwards.
-#[repr(C)]
-pub struct Stepped {
-    pub controller: Controller,
-    pub receipt: Receipt,
-}
-
 // An answer as numbers.
 fn receipt_of(a: Answer) -> Receipt
     ensures { λ r. ⌜ r ≡ receiptOf (outcomeOf a) ⌝ }
@@ -58,21 +51,6 @@ fn receipt_of(a: Answer) -> Receipt
     }
 }
 
-// The receive call by value.
-fn head_step(c: Controller, input: &[u8], out: &mut [u8]) -> Stepped
-    ensures { λ r. ⌜ (r .controller ≡ receiveCall c (now (input .entry)) (now (out .entry)) .controller)
-        × (r .receipt ≡ receiptOf (receiveCall c (now (input .entry)) (now (out .entry)) .answer))
-        × (now (out .exit) ≡ receiveCall c (now (input .entry)) (now (out .entry)) .output) ⌝ }
-{
-    let s = command::receive(c, input, out);
-    let controller = s.controller;
-    let a = s.answer;
-    Stepped {
-        controller: controller,
-        receipt: receipt_of(a),
-    }
-}
-
 // A head at power-up.
 #[no_mangle]
 pub extern "C" fn head_fresh() -> Controller
@@ -96,7 +74,7 @@ pub extern "C" fn head_receive(c: &mut Controller, input: &[u8], out: &mut [u8])
         × (r ≡ receiptOf (receiveCall (now (c .entry)) (now (input .entry)) (now (out .entry)) .answer))
         × (now (out .exit) ≡ receiveCall (now (c .entry)) (now (input .entry)) (now (out .entry)) .output) ⌝ }
 {
-    let s = head_step(*c, input, out);
+    let s = command::receive(*c, input, out);
     *c = s.controller;
-    s.receipt
+    receipt_of(s.answer)
 }
