@@ -1,8 +1,8 @@
 // Playing bytes from given settings, on a fresh receiver.
 use command::Answer;
-use command::Controller;
+use command::Served;
+use command::serve;
 use judging::TransferState;
-use packet::Receiver;
 use rules::settings_in_rule;
 use settings::Settings;
 ghost use mathlib.Core.Path.{_≡_};
@@ -25,18 +25,34 @@ pub fn play(s: Settings, b: &[u8]) -> Played
             clean: false,
         };
     }
-    let mut c = Controller {
+    let mut c = Served {
         settings: s,
         transfer: TransferState::NONE,
-        receiver: Receiver::FRESH,
+        header: [0; 6],
+        sum: 0,
+        received: 0,
+        answer: Answer::Waiting(0),
     };
+    let mut hold = [0u8; 1024];
     let mut out = [0u8; 64];
     let mut good = true;
     let mut at: usize = 0;
     while at < b.len() {
-        let step = command::receive(c, &b[at..], &mut out);
+        let settings = c.settings;
+        let transfer = c.transfer;
+        let header = c.header;
+        let step = serve(
+            settings,
+            transfer,
+            header,
+            c.sum,
+            c.received,
+            &mut hold,
+            &b[at..],
+            &mut out,
+        );
         let answer = step.answer;
-        c = step.controller;
+        c = step;
         match answer {
             Answer::Answered { taken, length: _ } => {
                 good = good & (out[0] == packet::WRITE_RESPONSE);
@@ -48,7 +64,7 @@ pub fn play(s: Settings, b: &[u8]) -> Played
         }
     }
     let settings = c.settings;
-    let clean = good & (c.transfer.active == 0) & (c.receiver.received == 0);
+    let clean = good & (c.transfer.active == 0) & (c.received == 0);
     Played {
         settings: settings,
         clean: clean,
