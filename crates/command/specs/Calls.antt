@@ -12,7 +12,9 @@ use Rattle.packet.specs.declared.receiver.Received.{Received}
 use Rattle.settings.specs.Settings.{factory, settingsInRule}
 use Rattle.judging.specs.Judging.{Arrived, judge, settingsAfter, response}
 use Rattle.judging.specs.Held.{noTransfer, heldIn, transferIn, transferInRule, packetIn, transferStateAfter}
+use Rattle.settings.specs.declared.settings.Settings.{Settings}
 use Rattle.judging.specs.declared.judge.Judgement.{Judgement}
+use Rattle.judging.specs.declared.transfer.TransferState.{TransferState}
 use Rattle.command.specs.declared.controller.Controller.{Controller}
 use Rattle.command.specs.declared.endpoint.Answer.{Answer}
 use Rattle.command.specs.declared.endpoint.Answer.the-variants.{Waiting, Answered, ShortOutput, OutOfRule}
@@ -35,21 +37,35 @@ outcomeOf (Answered n m) = Answers n m
 abbrev pub fresh : Controller
 fresh = record { settings = factory; transfer = noTransfer; receiver = freshReceiver }
 
+-- a controller of these parts
+abbrev pub controllerOf : Settings → TransferState → List ℕ → ℕ → ℕ → List ℕ → Controller
+controllerOf s t header sum received hold =
+    record { settings = s; transfer = t; receiver = record { header = header; sum = sum; received = received; hold = hold } }
+
 -- a half-received packet that has not all its bytes yet
 unfoldable pub packetInRule : List ℕ → ℕ → Bool
 packetInRule header received = ltb received (7 + payloadLength header)
 
 -- Refusal 3: a setting not allowed, run 1 outside mode 4, over 1,024 held bytes, a transfer open for a command not in the table,
 -- or a half-received packet that already has all its bytes.
+abbrev pub partsInRule : Settings → TransferState → List ℕ → ℕ → Bool
+partsInRule s t header received = settingsInRule s && transferInRule t && packetInRule header received
+
 unfoldable pub inRule : Controller → Bool
-inRule c = settingsInRule (c .settings) && transferInRule (c .transfer) && packetInRule (c .receiver .header) (c .receiver .received)
+inRule c = partsInRule (c .settings) (c .transfer) (c .receiver .header) (c .receiver .received)
+
+-- how a complete packet is judged, by its header, whether its checksum was right, and the hold; and what it draws
+abbrev pub judgedOn : Settings → TransferState → List ℕ → Bool → List ℕ → Judgement
+judgedOn s t header right hold = judge (s .mode) (transferIn t hold) (packetIn (heldIn t) header right hold)
+
+abbrev pub drawnOn : Settings → TransferState → List ℕ → Bool → List ℕ → List ℕ
+drawnOn s t header right hold = response s (packetIn (heldIn t) header right hold) (judgedOn s t header right hold)
 
 abbrev pub arrivedIn : ℕ → Received → Arrived
 arrivedIn n t = packetIn n (t .receiver .header) (t .right) (t .receiver .hold)
 
--- how it is judged
 unfoldable pub judgedIn : Controller → Received → Judgement
-judgedIn c t = judge (c .settings .mode) (transferIn (c .transfer) (t .receiver .hold)) (arrivedIn (heldIn (c .transfer)) t)
+judgedIn c t = judgedOn (c .settings) (c .transfer) (t .receiver .header) (t .right) (t .receiver .hold)
 
 -- the judgement carried out
 abbrev pub carriedOut : Controller → Received → Judgement → Controller

@@ -5,7 +5,7 @@ use packet::Receiver;
 use rules::settings_in_rule;
 use settings::Settings;
 ghost use mathlib.Core.Path.{_≡_};
-ghost use Rattle.command.specs.Calls.{fresh as freshOf, inRule, packetInRule};
+ghost use Rattle.command.specs.Calls.{fresh as freshOf, partsInRule, packetInRule};
 
 #[repr(C)]
 pub struct Controller {
@@ -34,18 +34,19 @@ impl Controller {
     {
         Controller::FRESH
     }
+}
 
-    // What refusal 3 lets pass.
-    pub(crate) fn in_rule(self) -> bool
-        ensures { λ r. ⌜ r ≡ inRule self ⌝ }
-    {
-        let settings = self.settings;
-        let transfer = self.transfer;
-        let receiver = self.receiver;
-        let header = receiver.header;
-        let a = settings_in_rule(settings);
-        let b = transfer.in_rule();
-        let c = packet_in_rule(header, receiver.received);
-        a & b & c
-    }
+// What refusal 3 lets pass: the parts of a controller that it looks at.
+pub(crate) fn in_rule(
+    settings: Settings,
+    transfer: TransferState,
+    header: [u8; 6],
+    received: usize,
+) -> bool
+    ensures { λ r. ⌜ r ≡ partsInRule settings transfer header received ⌝ }
+{
+    let a = settings_in_rule(settings);
+    let b = transfer.in_rule();
+    let c = packet_in_rule(header, received);
+    a & b & c
 }

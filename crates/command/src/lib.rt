@@ -5,8 +5,11 @@
 mod controller;
 mod endpoint;
 mod judge;
+mod parts;
 
 pub use controller::Controller;
 pub use endpoint::Answer;
 pub use endpoint::Step;
 pub use endpoint::receive;
+pub use parts::Served;
+pub use parts::serve;

@@ -1,6 +1,6 @@
 // The line that tells the answer to a report.
-use layout::Outcome;
 use libc::STDOUT_FILENO;
+use records::Outcome;
 use report::Checked;
 
 fn text(t: &[u8]) {

@@ -65,6 +65,20 @@ module _ (r : Receiver) (held : ℕ) (b : List ℕ) (k : length (r .header) ≡ 
       let n : before h (r .received) + 1 - 1 ≡ before h (r .received) = omega arith in
       rw (le-ltb (length b) (missing r b) (omega (arith, missing-before)), missing-before, n, taken-completes h (r .sum) (r .received) b l, header-same l))
 
+together-eq : {h h′ d d′ : List ℕ} {t t′ : Taken} → h ≡ h′ → d ≡ d′ → t ≡ t′ → together h d t ≡ together h′ d′ t′
+together-eq e f g = cc
+
+-- what the calls on the lent parts leave, put together, is what the receiver's call leaves
+pub taken-is : (r : Receiver) (held : ℕ) (b : List ℕ) → length (r .header) ≡ 6
+    → {h d : List ℕ} {t : Taken} {n : ℕ} → h ≡ sets (r .header) (r .received) b → n ≡ held
+    → t ≡ takenFrom h (r .sum) (r .received) b → d ≡ keptFrom h (r .received) (r .hold) n b
+    → together h d t ≡ receiving r held b
+taken-is r held b k e i f g =
+    together-eq e
+    (g ∙ ap₂ (λ (x : List ℕ) (m : ℕ). keptFrom x (r .received) (r .hold) m b) e i)
+    (f ∙ ap (λ (x : List ℕ). takenFrom x (r .sum) (r .received) b) e)
+    ∙ sym (received-from r held b k)
+
 -- A count that is cut at the end of a list takes and drops the same.
 
 pub take-min : (n : ℕ) (b : List ℕ) → take (min n (length b)) b ≡ take n b

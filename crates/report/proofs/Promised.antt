@@ -14,7 +14,8 @@ use Rattle.packet.proofs.Numbers.{length-bytes}
 use Rattle.settings.specs.Settings.{factory}
 use Rattle.settings.specs.declared.settings.Settings.{Settings}
 use Rattle.judging.specs.Playing.{play, clean}
-use Rattle.tuning.specs.Records.{Out, Bad, Good, _>>=_, _>>_, need}
+use Rattle.records.specs.Records.{Out, Bad, Good, _>>=_, _>>_, need}
+use Rattle.records.proofs.Records.{bad-good}
 use Rattle.tuning.specs.Report.{
   Trial,
   Trials,
@@ -36,9 +37,10 @@ use Rattle.tuning.specs.Report.{
 use Rattle.tuning.specs.Report.{Refused as RefusedWith}
 use Rattle.tuning.specs.Claim.{recordOf, trialRecords, reportOf, FirstLowest, Demand3}
 use Rattle.tuning.specs.Refusals.{Layout, Refusal}
-use Rattle.layout.specs.Found.{outOf, winnerAt}
-use Rattle.layout.specs.declared.record.Outcome.{Outcome}
-use Rattle.layout.specs.declared.record.Outcome.the-variants.{Value, Refused}
+use Rattle.records.specs.Found.{outOf}
+use Rattle.report_end.specs.Winner.{winnerAt}
+use Rattle.records.specs.declared.record.Outcome.{Outcome}
+use Rattle.records.specs.declared.record.Outcome.the-variants.{Value, Refused}
 use Rattle.trials.specs.Found.{First, BestOf}
 use Rattle.report.specs.Answers.{verdictIn, scoreIn, settingsIn}
 use Rattle.tuning.proofs.Flat.{nested, flat, then-good, need-good, trials-left, end-place, ofTrials, end-trials}
@@ -113,23 +115,15 @@ valueIn : ℕ → Out ℕ → ℕ
 valueIn d (Bad n p) = d
 valueIn d (Good a) = a
 
-isGood : {A : Type 0} → Out A → ℕ
-isGood (Bad n p) = 0
-isGood (Good a) = 1
-
 -- the same refusal
 same-refusal : {A : Type 0} {x y n p : ℕ} → _≡_ {A = Out A} (Bad x y) (Bad n p) → _≡_ {A = Verdict} (RefusedWith x y) (RefusedWith n p)
 unfolding numberIn atIn
 same-refusal e = ap₂ RefusedWith (ap numberIn e) (ap atIn e)
 
-good-bad : {A : Type 0} {a : A} {n p : ℕ} → Good a ≡ Bad n p → ⊥
-unfolding isGood
-good-bad e = let z : _≡_ {A = ℕ} 1 0 = ap isGood e in omega arith
-
 -- the test of the name fails
 named-no : (t : Bool) (k at : ℕ) {n x : ℕ} → (need t 17 at >> Good k) ≡ Bad n x → (t ≡ false) × (17 ≡ n) × (at ≡ x)
 unfolding need _>>=_ numberIn atIn
-named-no true k at e = absurd (good-bad e)
+named-no true k at e = absurd (bad-good (sym e))
 named-no false k at e = (refl, ap numberIn e, ap atIn e)
 
 -- the shipping packets end the report

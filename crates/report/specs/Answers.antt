@@ -4,8 +4,8 @@ use Rattle.settings.specs.Settings.{factory}
 use Rattle.settings.specs.declared.settings.Settings.{Settings}
 use Rattle.tuning.specs.Report.{Verdict, Accepted}
 use Rattle.tuning.specs.Report.{Refused as RefusedWith}
-use Rattle.layout.specs.declared.record.Outcome.{Outcome}
-use Rattle.layout.specs.declared.record.Outcome.the-variants.{Value, Refused}
+use Rattle.records.specs.declared.record.Outcome.{Outcome}
+use Rattle.records.specs.declared.record.Outcome.the-variants.{Value, Refused}
 
 abbrev pub verdictIn : Outcome → ℕ → Settings → Verdict
 verdictIn (Value k) score e = Accepted k score e

@@ -1,7 +1,6 @@
 // The tuning report checked: any bytes in, a yes or a no out.
 //
 // The contract of `check` cites `Demand3` and `verdict` of the crate tuning, and `specs/Answers`.
-mod same;
 mod verdict;
 
 pub use verdict::Checked;

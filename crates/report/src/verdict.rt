@@ -1,12 +1,12 @@
 // The yes or the no.
-use crate::same::same_settings;
-use layout::Outcome;
-use layout::count_of;
-use layout::refusal;
-use layout::winner_of;
+use equality::same_settings;
+use player::play;
+use records::Outcome;
+use records::refusal;
+use report_end::winner_of;
+use report_head::count_of;
 use settings::Settings;
 use trials::best_of;
-use trials::play;
 ghost use mathlib.Core.Path.{_≡_};
 ghost use Rattle.settings.specs.Settings.{factory};
 ghost use Rattle.tuning.specs.Report.{verdict};

@@ -1,16 +1,16 @@
-// The values that the settings may have: a test for each line of the table, and for all settings.
+// The rules that the settings keep: every setting has an allowed value, and run is not 1 outside mode 4.
+// The tests of the table's lines are those of the crates below.
 //
-// The contracts cite the `specs/` of the crate `settings`: `Table` (the allowed values), `Parts` (a
-// command's values in layout order) and `Settings` (the settings that keep the rules).
+// The contract cites `specs/Settings` of the crate `settings`.
 mod rules;
 
-pub use rules::display_mode;
-pub use rules::display_setting;
-pub use rules::led_current;
-pub use rules::pattern_sequence;
-pub use rules::sequence_run;
+pub use display_rules::display_mode;
+pub use display_rules::display_setting;
+pub use display_rules::led_current;
+pub use display_rules::static_colour;
+pub use display_rules::test_pattern;
+pub use input_rules::video_input;
 pub use rules::settings_in_rule;
-pub use rules::static_colour;
-pub use rules::test_pattern;
-pub use rules::video_input;
-pub use rules::video_mode;
+pub use sequence_rules::pattern_sequence;
+pub use sequence_rules::sequence_run;
+pub use video_rules::video_mode;

@@ -1,3 +1,2 @@
 -- The laws of the trials.
-pub mod Going
 pub mod Walking

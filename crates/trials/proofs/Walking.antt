@@ -1,16 +1,13 @@
 -- The trials one after the other: what the code has read of them at each turn.
-use Prim.Native.Nat.{ℕ, zero, suc, _+_, _*_, _-_, _<_, _≤_}
+use Prim.Native.Nat.{ℕ, suc, _+_, _-_, _<_, _≤_}
 use mathlib.Core.Path.{_≡_, refl, ap, ap₂, sym, _∙_, subst}
-use mathlib.Core.Bool.{Bool, true, false, _||_}
+use mathlib.Core.Bool.{Bool, true, false, cond, _||_}
 use mathlib.Core.List.{List, [], _∷_, _++_, append-assoc, append-nil}
 use native.Mathlib.Omega.{arith}
-use native.Mathlib.Numerals.{add-one}
-use native.Mathlib.Nat.{zero-add, add-zero}
-use lib.Dec.{eqb, leb, ltb}
-use lib.ListN.{length, getD, take, drop, length-append, length-drop}
-use lib.Seq.{drop-drop, drop-cons}
-use borrow.Author.Tests.{le-leb, lt-leb, eqb-true, eqb-false, ltb-true, ltb-false}
-use Rattle.packet.specs.Numbers.{valueOf}
+use native.Mathlib.Nat.{zero-add}
+use lib.Dec.{eqb, ltb}
+use lib.ListN.{length, drop, length-append}
+use borrow.Author.Tests.{eqb-true, eqb-false, ltb-true, ltb-false}
 use Rattle.packet.specs.Stream.{packets}
 use Rattle.packet.proofs.Cases.{bool-cases}
 use Rattle.settings.specs.Settings.{factory, settingsInRule}
@@ -20,81 +17,14 @@ use Rattle.judging.specs.Judging.{arrived, judge}
 use Rattle.judging.specs.Playing.{State, from, judged, next, after, play}
 use Rattle.judging.proofs.Judgements.{sound}
 use Rattle.judging.proofs.Plays.{kept-judgement}
-use Rattle.tuning.specs.Records.{Out, Bad, Good, _>>=_, _>>_, need, Piece, reading}
+use Rattle.records.specs.Records.{Out, Bad, Good, _>>=_}
 use Rattle.tuning.specs.Report.{Trial, Trials, readTrials, scoreAt, endFrom}
-use Rattle.tuning.proofs.Flat.{bind-bind}
 use Rattle.tuning.proofs.Trials.{onto, lowest-stays, lowest-new, score-front, score-last, endAll, end-front, end-last, end-all}
-use Rattle.layout.specs.declared.record.Outcome.{Outcome}
-use Rattle.layout.specs.declared.record.Outcome.the-variants.{Value, Refused}
-use Rattle.layout.proofs.Steps.{wordAt, word-of, part-length, part-front, part-back}
-use Rattle.trials.specs.Found.{before, TrialIs, TrialRead, First, BestOf}
-
--- the number in the four bytes at a place
-abbrev pub longAt : List ℕ → ℕ → ℕ
-longAt r at = wordAt r at + 65536 * wordAt r (at + 2)
-
-value-four : (d : List ℕ) (at : ℕ) → at + 4 ≤ length d → valueOf (take 4 (drop at d)) ≡ longAt d at
-unfolding valueOf
-value-four d at h =
-    let two : at + 2 ≡ suc (suc at) = omega arith in
-    let three : suc (suc at) + 1 ≡ suc (suc (suc at)) = omega arith in
-    rw (
-      drop-cons d at 0 (omega arith),
-      drop-cons d (suc at) 0 (omega arith),
-      drop-cons d (suc (suc at)) 0 (omega arith),
-      drop-cons d (suc (suc (suc at))) 0 (omega arith),
-      two,
-      three,
-      add-one,
-    ) (omega arith)
-
--- the trial at a place
-pub trial-missed : (r : List ℕ) (at : ℕ) {n p : ℕ} → reading 2 at (drop at r) ≡ Bad n p → (m : ℕ) → readTrials (suc m) at (drop at r) ≡ Bad n p
-unfolding readTrials _>>=_
-trial-missed r at e m = rw e
-
-module _ (r : List ℕ) (at n : ℕ) (l : at + 4 + n ≤ length r)
-    (e : reading 2 at (drop at r) ≡ Good (record { body = take n (drop 4 (drop at r)); left = drop (4 + n) (drop at r) })) where
-  body : List ℕ
-  body = take n (drop 4 (drop at r))
-
-  body-is : body ≡ take n (drop (at + 4) r)
-  unfolding body
-  body-is = ap (take n) (drop-drop 4 at r)
-
-  body-long : length body ≡ n
-  body-long = ap length body-is ∙ part-length n (at + 4) r l
-
-  pub trial-13 : n < 4 → (m : ℕ) → readTrials (suc m) at (drop at r) ≡ Bad 13 at
-  unfolding readTrials need _>>=_ body
-  trial-13 h m = rw (e, lt-leb 4 (length body) (omega (arith, body-long)))
-
-  -- it stands in front of the trials behind it
-  reads-more : 4 ≤ n → {score : ℕ} {bytes : List ℕ} → valueOf (take 4 body) ≡ score → drop 4 body ≡ bytes → (m : ℕ)
-      → readTrials (suc m) at (drop at r) ≡ (readTrials m (at + 4 + n) (drop (at + 4 + n) r) >>= λ q. Good (before (record { score = score; bytes = bytes }) q))
-  unfolding readTrials need _>>=_ body
-  reads-more h a b m =
-      let p : at + (4 + n) ≡ at + 4 + n = omega arith in
-      let left : drop (4 + n) (drop at r) ≡ drop (at + 4 + n) r = drop-drop (4 + n) at r ∙ ap (λ (x : ℕ). drop x r) p in
-      rw (e, le-leb 4 (length body) (omega (arith, body-long)), body-long, left, a, b)
-
-  pub trial-is : {low high : ℕ} {s t : Settings} → 4 ≤ n → low ≡ getD r (at + 4) 0 + 256 * getD r (at + 5) 0 → high ≡ getD r (at + 6) 0 + 256 * getD r (at + 7) 0
-      → t ≡ play s (take (at + 4 + n - (at + 8)) (drop (at + 8) r)) .settings
-      → TrialIs r at s (at + 4 + n) (low + 65536 * high) t
-  trial-is {low} {high} {s} {t} h p q f =
-      let k = at + 4 + n - (at + 8) in
-      let nk : n ≡ 4 + k = omega arith in
-      let six : at + 6 ≡ at + 4 + 2 = omega arith in
-      let eight : at + 4 + 4 ≡ at + 8 = omega arith in
-      let front : take 4 body ≡ take 4 (drop (at + 4) r) =
-      ap (take 4) (body-is ∙ ap (λ (x : ℕ). take x (drop (at + 4) r)) nk) ∙ part-front 4 k (at + 4) r (omega arith) in
-      let back : drop 4 body ≡ take k (drop (at + 8) r) =
-      ap (drop 4) (body-is ∙ ap (λ (x : ℕ). take x (drop (at + 4) r)) nk) ∙ part-back 4 k (at + 4) r (omega arith) ∙ ap (λ (x : ℕ). take k (drop x r)) eight in
-      let score : valueOf (take 4 body) ≡ low + 65536 * high =
-      ap valueOf front
-      ∙ value-four r (at + 4) (omega arith)
-      ∙ sym (ap₂ (λ (x y : ℕ). x + 65536 * y) (word-of r (at + 4) (at + 5) p (omega arith)) (word-of r (at + 6) (at + 7) q (omega arith) ∙ ap (wordAt r) six)) in
-      record { bytes = take k (drop (at + 8) r); reads = reads-more h score back; ends = f }
+use Rattle.records.specs.declared.record.Outcome.{Outcome}
+use Rattle.records.specs.declared.record.Outcome.the-variants.{Value, Refused}
+use Rattle.player.specs.Played.{endSettings}
+use Rattle.trial.specs.Trials.{before, bytesAt, TrialIs}
+use Rattle.trials.specs.Found.{First, BestOf}
 
 -- whatever is played, the settings keep the rules
 kept-after : (a : State) (ps : List (List ℕ)) → Kept (a .settings) → Kept (after a ps .settings)
@@ -108,8 +38,12 @@ pub rule-play : (s : Settings) (b : List ℕ) → settingsInRule s ≡ true → 
 unfolding play
 rule-play s b h = in-rule-of (play s b .settings) (kept-after (from s) (packets b) (kept-by s h))
 
-pub rule-trial : {r : List ℕ} {at next score : ℕ} {s e : Settings} → settingsInRule s ≡ true → TrialIs r at s next score e → settingsInRule e ≡ true
-rule-trial {r} {at} {next} {score} {s} {e} h t = subst (λ (x : Settings). settingsInRule x ≡ true) (sym (t .ends)) (rule-play s (t .bytes) h)
+-- a play of settings in rule, as the call answers it
+pub played : (s : Settings) (b : List ℕ) {e : Settings} → settingsInRule s ≡ true → e ≡ endSettings s b → e ≡ play s b .settings
+played s b h q = q ∙ ap (λ (x : Bool). cond x (play s b .settings) s) h
+
+pub rule-played : (s : Settings) (b : List ℕ) {e : Settings} → settingsInRule s ≡ true → e ≡ endSettings s b → settingsInRule e ≡ true
+rule-played s b h q = subst (λ (x : Settings). settingsInRule x ≡ true) (sym (played s b h q)) (rule-play s b h)
 
 -- i of the trials have been read: the place behind them, where the last ended, and the first of the lowest-scored
 pub record Walked (r : List ℕ) (i at : ℕ) (last : Settings) (k score : ℕ) (e : Settings) : Type 0 where
@@ -198,9 +132,10 @@ or-none : (a b : Bool) → (a || b) ≡ false → (a ≡ false) × (b ≡ false)
 or-none true b h = let z : _≡_ {A = ℕ} 0 1 = cc in absurd (omega arith)
 or-none false b h = (refl, h)
 
-module _ {r : List ℕ} {i at next n k score : ℕ} {last s e : Settings} (w : Walked r i at last k score e) (t : TrialIs r at last next n s) where
+module _ {r : List ℕ} {i at next n k score : ℕ} {last s e : Settings} (w : Walked r i at last k score e) (t : TrialIs r at next n)
+    (plays : s ≡ play last (bytesAt r at next) .settings) where
   one : Trial
-  one = record { score = n; bytes = t .bytes }
+  one = record { score = n; bytes = bytesAt r at next }
 
   -- one trial more, whichever is the best then
   walked-more : (k′ score′ : ℕ) (e′ : Settings) → First (w .list ++ (one ∷ [])) k′ score′ e′ → Walked r (i + 1) next s k′ score′ e′
@@ -215,16 +150,16 @@ module _ {r : List ℕ} {i at next n k score : ℕ} {last s e : Settings} (w : W
             ∙ ap (λ (x : Out Trials). x >>= λ q. Good (onto (w .list) q)) (t .reads m)
             ∙ onto-more (w .list) one (readTrials m next (drop next r));
         count = omega (arith, length-append (w .list) (one ∷ []), w .count);
-        ended = t .ends ∙ ap (λ (x : Settings). play x (t .bytes) .settings) (w .ended) ∙ sym (end-all factory (w .list) one);
+        ended = plays ∙ ap (λ (x : Settings). play x (bytesAt r at next) .settings) (w .ended) ∙ sym (end-all factory (w .list) one);
         best = h;
       }
 
-  better : First (w .list ++ (one ∷ [])) (length (w .list)) n (play (endAll factory (w .list)) (t .bytes) .settings) → Walked r (i + 1) next s i n s
+  better : First (w .list ++ (one ∷ [])) (length (w .list)) n (play (endAll factory (w .list)) (bytesAt r at next) .settings) → Walked r (i + 1) next s i n s
   better h =
-      let q : play (endAll factory (w .list)) (t .bytes) .settings ≡ s = sym (t .ends ∙ ap (λ (x : Settings). play x (t .bytes) .settings) (w .ended)) in
+      let q : play (endAll factory (w .list)) (bytesAt r at next) .settings ≡ s = sym (plays ∙ ap (λ (x : Settings). play x (bytesAt r at next) .settings) (w .ended)) in
       walked-more i n s
       (subst (λ (x : Settings). First (w .list ++ (one ∷ [])) i n x) q
-      (subst (λ (x : ℕ). First (w .list ++ (one ∷ [])) x n (play (endAll factory (w .list)) (t .bytes) .settings)) (w .count) h))
+      (subst (λ (x : ℕ). First (w .list ++ (one ∷ [])) x n (play (endAll factory (w .list)) (bytesAt r at next) .settings)) (w .count) h))
 
   -- the first trial, or one that scores below the best so far
   pub walked-better : (eqb i 0 || ltb n score) ≡ true → Walked r (i + 1) next s i n s
@@ -242,19 +177,11 @@ module _ {r : List ℕ} {i at next n k score : ℕ} {last s e : Settings} (w : W
       let f : i ≡ 0 → ⊥ = eqb-false i 0 (none .0) in
       walked-more k score e (first-stays (w .list) one k score e (omega (arith, w .count, f)) (ltb-false n score (none .1)) (w .best))
 
--- the same, where the settings and the best are known by equations
-pub walked-by : {r : List ℕ} {i at k k′ score score′ : ℕ} {last last′ e e′ : Settings} → last′ ≡ last → k′ ≡ k → score′ ≡ score → e′ ≡ e
-    → Walked r i at last k score e
-    → Walked r i at last′ k′ score′ e′
-walked-by {r} {i} {at} {k} {k′} {score} {score′} {last} {last′} {e} {e′} l p q f w =
-    subst (λ (x : Settings). Walked r i at x k′ score′ e′) (sym l)
-    (subst (λ (x : ℕ). Walked r i at last x score′ e′) (sym p) (subst (λ (x : ℕ). Walked r i at last k x e′) (sym q) (subst (λ (x : Settings). Walked r i at last k score x) (sym f) w)))
-
--- no trial is there
-pub no-trial : (r : List ℕ) (at : ℕ) {n p : ℕ} {o : Outcome} (s : Settings) (score : ℕ) (e : Settings) → o ≡ Refused n p
-    → ((m : ℕ) → readTrials (suc m) at (drop at r) ≡ Bad n p)
-    → TrialRead r at s o score e
-no-trial r at {n} {p} {o} s score e q f = subst (λ (x : Outcome). TrialRead r at s x score e) (sym q) f
+-- the same, where the best is known by equations
+pub walked-by : {r : List ℕ} {i at k k′ score score′ : ℕ} {last e e′ : Settings} → k′ ≡ k → score′ ≡ score → e′ ≡ e → Walked r i at last k score e
+    → Walked r i at last k′ score′ e′
+walked-by {r} {i} {at} {k} {k′} {score} {score′} {last} {e} {e′} p q f w =
+    subst (λ (x : ℕ). Walked r i at last x score′ e′) (sym p) (subst (λ (x : ℕ). Walked r i at last k x e′) (sym q) (subst (λ (x : Settings). Walked r i at last k score x) (sym f) w))
 
 -- a trial that is not there ends the reading
 pub walked-missed : {r : List ℕ} {m i at k score n p : ℕ} {last e f : Settings} {o : Outcome} → Walked r i at last k score e → i < m → o ≡ Refused n p

@@ -1,31 +1,15 @@
 -- What the code reads of the trials: a refusal, or the place behind them and the first of the lowest-scored.
-use Prim.Native.Nat.{ℕ, suc, _<_}
+use Prim.Native.Nat.{ℕ, _<_}
 use mathlib.Core.Path.{_≡_}
-use mathlib.Core.List.{List, [], _∷_}
-use lib.ListN.{length, drop}
+use mathlib.Core.List.{List}
+use lib.ListN.{length}
 use Rattle.settings.specs.Settings.{factory}
 use Rattle.settings.specs.declared.settings.Settings.{Settings}
-use Rattle.judging.specs.Playing.{play}
-use Rattle.tuning.specs.Records.{Out, Bad, Good, _>>=_}
-use Rattle.tuning.specs.Report.{Trial, Trials, readTrials, scoreAt, endFrom}
+use Rattle.records.specs.Records.{Out, Bad, Good}
+use Rattle.tuning.specs.Report.{Trial, Trials, scoreAt, endFrom}
 use Rattle.tuning.specs.Claim.{FirstLowest}
-use Rattle.layout.specs.declared.record.Outcome.{Outcome}
-use Rattle.layout.specs.declared.record.Outcome.the-variants.{Value, Refused}
-
--- one trial in front of those that are read behind it
-abbrev pub before : Trial → Trials → Trials
-before t q = record { list = t ∷ q .list; at = q .at; left = q .left }
-
--- the trial at a place of r, played from s: the place behind its record, its score, and the settings that it ended with
-pub record TrialIs (r : List ℕ) (at : ℕ) (s : Settings) (next score : ℕ) (e : Settings) : Type 0 where
-  pub bytes : List ℕ
-  pub reads : (m : ℕ) → readTrials (suc m) at (drop at r) ≡ (readTrials m next (drop next r) >>= λ q. Good (before (record { score = score; bytes = bytes }) q))
-  pub ends : e ≡ play s bytes .settings
-
--- a trial is read, or the refusal that ends the reading of any more
-abbrev pub TrialRead : List ℕ → ℕ → Settings → Outcome → ℕ → Settings → Type 0
-TrialRead r at s (Value next) score e = TrialIs r at s next score e
-TrialRead r at s (Refused n p) score e = (m : ℕ) → readTrials (suc m) at (drop at r) ≡ Bad n p
+use Rattle.records.specs.declared.record.Outcome.{Outcome}
+use Rattle.records.specs.declared.record.Outcome.the-variants.{Value, Refused}
 
 -- of these trials, trial k is the first of the lowest-scored, with this score and these end settings; of none it is 0, with factory values
 pub record First (ts : List Trial) (k score : ℕ) (e : Settings) : Type 0 where

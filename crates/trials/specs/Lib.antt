@@ -1,3 +1,2 @@
 -- What the contracts of the trials cite.
-pub mod Played
 pub mod Found

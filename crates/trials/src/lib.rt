@@ -1,11 +1,7 @@
-// The trials of a tuning report: their packets played, and the first of the lowest-scored found in
-// one pass.
+// The trials of a tuning report: the first of the lowest-scored, found in one pass.
 //
-// The contracts cite `specs/Played` and `specs/Found`, and the definitions of the crate tuning.
-mod player;
-mod trial;
+// The contract cites `specs/Found`, and the definitions of the crate tuning.
+mod best;
 
-pub use player::Played;
-pub use player::play;
-pub use trial::Best;
-pub use trial::best_of;
+pub use best::Best;
+pub use best::best_of;

@@ -23,7 +23,7 @@ use Rattle.judging.specs.Judging.{
   response,
 }
 use Rattle.judging.specs.Playing.{judged, next, judgements, responses, after, play, allAcknowledged, clean}
-use Rattle.tuning.specs.Records.{_>>=_, need, reading}
+use Rattle.records.specs.Records.{_>>=_, need, reading}
 use Rattle.tuning.specs.Report.{
   readTrials,
   readHead,

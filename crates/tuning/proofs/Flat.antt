@@ -12,7 +12,8 @@ use Rattle.packet.specs.Numbers.{valueOf}
 use Rattle.packet.proofs.Cases.{bool-cases, and-right}
 use Rattle.settings.specs.Settings.{factory}
 use Rattle.judging.specs.Playing.{isNil}
-use Rattle.tuning.specs.Records.{Out, Bad, Good, _>>=_, _>>_, need, Piece, reading}
+use Rattle.records.specs.Records.{Out, Bad, Good, _>>=_, _>>_, need, Piece, reading}
+use Rattle.records.proofs.Records.{bad-good}
 use Rattle.tuning.specs.Report.{Trial, Trials, Report, readTrials, readHead, readEnd, readReport, checkReport, verdictOf, verdict}
 
 pub bind-bind : {A B C : Type 0} (m : Out A) (f : A → Out B) (g : B → Out C) → ((m >>= f) >>= g) ≡ (m >>= λ a. f a >>= g)
@@ -40,14 +41,6 @@ pieceIn : Piece → Out Piece → Piece
 pieceIn d (Bad n p) = d
 pieceIn d (Good a) = a
 
-isGood : {A : Type 0} → Out A → ℕ
-isGood (Bad n p) = 0
-isGood (Good a) = 1
-
-good-only : {A : Type 0} {n p : ℕ} {a : A} → Bad n p ≡ Good a → ⊥
-unfolding isGood
-good-only e = let z : _≡_ {A = ℕ} 0 1 = ap isGood e in omega arith
-
 pub read-is : (kind at : ℕ) (b : List ℕ) (h : Piece) → reading kind at b ≡ Good h
     → (h ≡ record { body = take (valueOf (take 2 b)) (drop 4 b); left = drop (4 + valueOf (take 2 b)) b }) × (4 + valueOf (take 2 b) ≤ length b)
 unfolding reading need _>>=_ pieceIn
@@ -55,19 +48,19 @@ read-is kind at b h =
     bool-cases (leb 4 (length b) && leb (4 + valueOf (take 2 b)) (length b))
     (λ t. bool-cases (eqb (valueOf (take 2 (drop 2 b))) kind)
     (λ k. rw (t, k) λ e. (sym (ap (pieceIn h) e), leb-true (4 + valueOf (take 2 b)) (length b) (and-right (leb 4 (length b)) (leb (4 + valueOf (take 2 b)) (length b)) t)))
-    (λ k. rw (t, k) λ e. absurd (good-only e)))
-    (λ t. rw t λ e. absurd (good-only e))
+    (λ k. rw (t, k) λ e. absurd (bad-good e)))
+    (λ t. rw t λ e. absurd (bad-good e))
 
 -- a reading that gives a value, step by step
 pub then-good : {A B : Type 0} (m : Out A) (f : A → Out B) {b : B} → (m >>= f) ≡ Good b → (a : A) × (m ≡ Good a) × (f a ≡ Good b)
 unfolding _>>=_
-then-good (Bad n p) f e = absurd (good-only e)
+then-good (Bad n p) f e = absurd (bad-good e)
 then-good (Good a) f e = (a, refl, e)
 
 pub need-good : {B : Type 0} (t : Bool) (n p : ℕ) (m : Out B) {b : B} → (need t n p >> m) ≡ Good b → (t ≡ true) × (m ≡ Good b)
 unfolding need _>>=_
 need-good true n p m e = (refl, e)
-need-good false n p m e = absurd (good-only e)
+need-good false n p m e = absurd (bad-good e)
 
 -- kind 1 has eight bytes, and the trials come next
 head-left : (r : List ℕ) (h : Piece) → reading 1 0 r ≡ Good h → eqb (length (h .body)) 4 ≡ true → drop 8 r ≡ h .left

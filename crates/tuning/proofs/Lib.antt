@@ -1,5 +1,4 @@
 -- Demand 3, the table of refusals, and the laws that the report checker cites.
-pub mod Records
 pub mod Flat
 pub mod Reports
 pub mod Refusals

@@ -14,7 +14,7 @@ use Rattle.packet.proofs.Cases.{bool-cases}
 use Rattle.packet.proofs.Numbers.{value-bytes, length-bytes}
 use Rattle.settings.specs.Settings.{factory}
 use Rattle.judging.specs.Playing.{play, isNil, clean}
-use Rattle.tuning.specs.Records.{Out, Bad, Good, _>>=_, _>>_, need, reading}
+use Rattle.records.specs.Records.{Out, Bad, Good, _>>=_, _>>_, need, reading}
 use Rattle.tuning.specs.Report.{Trial, Trials, Report, readTrials, readEnd, endFrom, firstLowest, sameSettings, checkReport, Refused, verdictOf, verdict}
 use Rattle.tuning.specs.Claim.{recordOf, trialRecords, reportOf, Scores, FirstLowest, Ships}
 use Rattle.tuning.specs.Refusals.{
@@ -44,7 +44,7 @@ use Rattle.tuning.specs.Refusals.{
   Later,
 }
 use Rattle.tuning.proofs.Flat.{nested, verdict-nested}
-use Rattle.tuning.proofs.Records.{short-body, other-kind}
+use Rattle.records.proofs.Records.{short-body, other-kind}
 use Rattle.tuning.proofs.Reports.{length-record, reading-record, trials-end, run, pass, reading-list, reading-whole, count-bound, length-report, lowest-true, lowest-back, settings-true, clean-true, clean-back, Says, verdict-says}
 use Rattle.tuning.proofs.Trials.{reading-prefix}
 

@@ -24,7 +24,7 @@ use Rattle.judging.specs.Playing.{State, from, judgements, play, allAcknowledge
 use Rattle.encoder.specs.Encoding.{standardList}
 use Rattle.encoder.proofs.Lists.{standard-plays, standard-clean}
 use Rattle.judging.proofs.Plays.{Holding, holding-play}
-use Rattle.tuning.specs.Records.{Out, Bad, Good, _>>=_, _>>_, need, Piece, reading}
+use Rattle.records.specs.Records.{Out, Bad, Good, _>>=_, _>>_, need, Piece, reading}
 use Rattle.tuning.specs.Report.{
   Trial,
   Trials,

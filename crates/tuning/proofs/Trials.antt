@@ -13,7 +13,7 @@ use Rattle.packet.proofs.Cases.{bool-cases}
 use Rattle.packet.proofs.Numbers.{value-bytes, length-bytes}
 use Rattle.settings.specs.declared.settings.Settings.{Settings}
 use Rattle.judging.specs.Playing.{play}
-use Rattle.tuning.specs.Records.{Out, Bad, Good, _>>=_, _>>_, reading}
+use Rattle.records.specs.Records.{Out, Bad, Good, _>>=_, _>>_, reading}
 use Rattle.tuning.specs.Report.{Trial, Trials, readTrials, scoreAt, endFrom}
 use Rattle.tuning.specs.Claim.{recordOf, trialRecords, Scores, FirstLowest}
 use Rattle.tuning.proofs.Flat.{bind-bind}

@@ -1,5 +1,4 @@
 -- The tuning report, in the order of document 01.
-pub mod Records
 pub mod Report
 pub mod Claim
 pub mod Refusals

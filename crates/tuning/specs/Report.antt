@@ -10,7 +10,7 @@ use Rattle.settings.specs.Settings.{valuesOf, factory}
 use Rattle.settings.specs.declared.settings.Settings.{Settings}
 use Rattle.settings.specs.declared.command.Command.{Command}
 use Rattle.judging.specs.Playing.{play, isNil, clean}
-use Rattle.tuning.specs.Records.{Out, Bad, Good, _>>=_, _>>_, need, reading}
+use Rattle.records.specs.Records.{Out, Bad, Good, _>>=_, _>>_, need, reading}
 
 -- a trial: its score and its packet bytes
 pub record Trial : Type 0 where

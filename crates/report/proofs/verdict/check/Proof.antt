@@ -13,26 +13,27 @@ use Rattle.settings.specs.Settings.{factory}
 use Rattle.settings.specs.declared.settings.Settings.{Settings}
 use Rattle.settings.proofs.Keeping.{kept-factory, in-rule-of}
 use Rattle.judging.specs.Playing.{play, clean}
-use Rattle.tuning.specs.Records.{Good}
+use Rattle.records.specs.Records.{Good}
 use Rattle.tuning.specs.Report.{Trials, readTrials, readHead}
-use Rattle.layout.specs.Found.{outOf, winnerAt}
-use Rattle.layout.specs.declared.record.Outcome.{Outcome}
-use Rattle.layout.specs.declared.record.Outcome.the-variants.{Value, Refused}
+use Rattle.records.specs.Found.{outOf}
+use Rattle.report_end.specs.Winner.{winnerAt}
+use Rattle.records.specs.declared.record.Outcome.{Outcome}
+use Rattle.records.specs.declared.record.Outcome.the-variants.{Value, Refused}
 use Rattle.trials.specs.Found.{First, BestOf}
-use Rattle.trials.specs.Played.{endSettings, endClean}
+use Rattle.player.specs.Played.{endSettings, endClean}
 use Rattle.report.proofs.Promised.{promised-no, promised-yes, best-bad, best-good, head-no, trials-no, winner-no, room, short, refused-18, refused-19, accepted-with}
 use borrow.Author.Needs.{needs}
 use Rattle.report.proofs.verdict.check.Statement.{statement}
 use Rattle.report.proofs.verdict.check.Tie as tie
 use Rattle.report.proofs.verdict.check.Reads as reads
 use Rattle.report.proofs.verdict.check.Lts as lts
-use Rattle.layout.proofs.winner_of.Reads as winner-of-reads
-use Rattle.layout.proofs.count_of.Reads as count-of-reads
-use Rattle.layout.proofs.refusal.Reads as refusal-reads
-use Rattle.report.proofs.same.same_settings.Reads as same-settings-reads
+use Rattle.report_end.proofs.winner_of.Reads as winner-of-reads
+use Rattle.report_head.proofs.count_of.Reads as count-of-reads
+use Rattle.records.proofs.refusal.Reads as refusal-reads
+use Rattle.equality.proofs.same_settings.Reads as same-settings-reads
 use Rattle.report.proofs.verdict.refused.Reads as refused-reads
 use Rattle.settings.proofs.settings.Settings.factory.Reads as factory-reads
-use Rattle.trials.proofs.play.Reads as play-reads
+use Rattle.player.proofs.play.Reads as play-reads
 use Rattle.trials.proofs.best_of.Reads as best-of-reads
 
 -- the report, whose elements are bytes

@@ -5,15 +5,15 @@ use Rattle.rules.proofs.rules.settings_in_rule.Statement.{statement}
 use Rattle.rules.proofs.rules.settings_in_rule.Tie as tie
 use Rattle.rules.proofs.rules.settings_in_rule.Reads as reads
 use Rattle.rules.proofs.rules.settings_in_rule.Lts as lts
-use Rattle.rules.proofs.rules.display_mode.Reads as display-mode-reads
-use Rattle.rules.proofs.rules.display_setting.Reads as display-setting-reads
-use Rattle.rules.proofs.rules.led_current.Reads as led-current-reads
-use Rattle.rules.proofs.rules.pattern_sequence.Reads as pattern-sequence-reads
-use Rattle.rules.proofs.rules.sequence_run.Reads as sequence-run-reads
-use Rattle.rules.proofs.rules.static_colour.Reads as static-colour-reads
-use Rattle.rules.proofs.rules.test_pattern.Reads as test-pattern-reads
-use Rattle.rules.proofs.rules.video_input.Reads as video-input-reads
-use Rattle.rules.proofs.rules.video_mode.Reads as video-mode-reads
+use Rattle.display_rules.proofs.display_mode.Reads as display-mode-reads
+use Rattle.display_rules.proofs.display_setting.Reads as display-setting-reads
+use Rattle.display_rules.proofs.led_current.Reads as led-current-reads
+use Rattle.sequence_rules.proofs.pattern_sequence.Reads as pattern-sequence-reads
+use Rattle.sequence_rules.proofs.sequence_run.Reads as sequence-run-reads
+use Rattle.display_rules.proofs.static_colour.Reads as static-colour-reads
+use Rattle.display_rules.proofs.test_pattern.Reads as test-pattern-reads
+use Rattle.input_rules.proofs.video_input.Reads as video-input-reads
+use Rattle.video_rules.proofs.video_mode.Reads as video-mode-reads
 
 display-mode-requires : tie.Need-display-mode-requires
 display-mode-requires c κs = search needs

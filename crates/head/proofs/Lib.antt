@@ -1,0 +1,2 @@
+-- The theorems of the exported calls.
+pub mod Verdicts

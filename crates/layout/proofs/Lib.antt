@@ -1,2 +1,0 @@
--- The laws of the layout.
-pub mod Steps

@@ -1,2 +1,0 @@
--- What the contracts of the layout cite.
-pub mod Found

@@ -1,0 +1,2 @@
+-- The laws of a play.
+pub mod Going

@@ -1,0 +1,2 @@
+-- What the contract of a play cites.
+pub mod Played

@@ -1,0 +1,3 @@
+-- The laws of records.
+pub mod Records
+pub mod Parts

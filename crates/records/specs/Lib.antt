@@ -1,0 +1,3 @@
+-- Records, and what the code reads of them.
+pub mod Records
+pub mod Found

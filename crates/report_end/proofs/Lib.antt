@@ -1,0 +1,2 @@
+-- The laws of the end.
+pub mod Steps

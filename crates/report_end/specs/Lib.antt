@@ -1,0 +1,2 @@
+-- What the contract of the end of a report cites.
+pub mod Winner

@@ -1,0 +1,2 @@
+-- The laws of the head.
+pub mod Steps

@@ -1,0 +1,2 @@
+-- The laws of a trial.
+pub mod Steps

@@ -1,0 +1,2 @@
+-- What the contract of a trial cites.
+pub mod Trials

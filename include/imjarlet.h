@@ -1,0 +1,260 @@
+/*
+ * Imjarlet: the command endpoint of a projector head, and the checker of tuning reports, for C.
+ *
+ * Link with libhead.a, which `rt staticlib head` writes to target/staticlib. The archive holds
+ * x86-64 code for Linux and the sizes and offsets below are those of that target; README.md says
+ * what firmware on another processor can take. C99 or later.
+ *
+ * Bytes are hexadecimal in the comments (01 04); numbers are decimal. No call allocates, keeps a
+ * pointer or has state of its own: two calls on two controllers may run at the same time.
+ *
+ * What the caller owes a call: a pointer with a length is valid for that many bytes, and may be
+ * NULL only where the length is 0; a pointer to a controller is valid and aligned; and the
+ * controller, the input and the output of one call do not overlap. Nothing is owed of the bytes
+ * themselves, those of a controller and of settings included: the calls answer on all.
+ */
+#ifndef IMJARLET_H
+#define IMJARLET_H
+
+#include <stddef.h>
+#include <stdint.h>
+
+#ifdef __cplusplus
+extern "C" {
+#endif
+
+/* Sizes, in bytes. */
+enum {
+    IMJARLET_OUTPUT_LEAST = 64,        /* the shortest output that a receive call or the encoder takes */
+    IMJARLET_LIST_OUTPUT_LEAST = 128,  /* the shortest output that the standard list takes */
+    IMJARLET_LIST_LENGTH = 111,        /* the length of the standard list */
+    IMJARLET_HOLD = 1024,              /* the most payload bytes of a transfer that are held */
+    IMJARLET_REPORT_MOST = 60000       /* the most bytes of a report */
+};
+
+/*
+ * The packet: type, CMD1, CMD2, flags, payload length (2 bytes, least significant first), payload,
+ * checksum (the sum of every earlier byte, modulo 256).
+ */
+enum {
+    IMJARLET_ERROR = 0x01,
+    IMJARLET_HOST_WRITE = 0x02,
+    IMJARLET_WRITE_RESPONSE = 0x03,
+    IMJARLET_HOST_READ = 0x04,
+    IMJARLET_READ_RESPONSE = 0x05
+};
+
+enum {
+    IMJARLET_WHOLE = 0x00,
+    IMJARLET_BEGINNING = 0x01,
+    IMJARLET_INTERMEDIATE = 0x02,
+    IMJARLET_LAST = 0x03
+};
+
+/* The payload of an error packet: one byte for each code, ascending. */
+enum {
+    IMJARLET_CODE_COMMAND = 0x02,   /* type neither 02 nor 04, command not in the table, or a read of 01 06 */
+    IMJARLET_CODE_VALUE = 0x03,     /* a value is not allowed */
+    IMJARLET_CODE_LENGTH = 0x04,    /* over 1,024 payload bytes in the packet or in the transfer */
+    IMJARLET_CODE_MODE = 0x07,      /* run 1 outside display mode 4 */
+    IMJARLET_CODE_CHECKSUM = 0x09,  /* the checksum is wrong */
+    IMJARLET_CODE_SIZE = 0x0A,      /* the data have not the command's size */
+    IMJARLET_CODE_ORDER = 0x0B      /* the flags are out of order */
+};
+
+/* What a call refuses. It then takes nothing and leaves output and controller as they were. */
+enum {
+    IMJARLET_ACCEPTED = 0,      /* no refusal */
+    IMJARLET_SHORT_OUTPUT = 1,  /* the output is shorter than 64 bytes, or 128 for the standard list */
+    IMJARLET_NOT_ALLOWED = 2,   /* the encoder: a value is not allowed, or the command is not in the table */
+    IMJARLET_OUT_OF_RULE = 3    /* a setting that is not allowed; run 1 outside display mode 4; over 1,024
+                                   held bytes; a transfer open for a command that is not in the table; or a
+                                   half-received packet that already has all its bytes */
+};
+
+/* Why a report is refused, and where: the place is counted in bytes from 0. */
+enum {
+    IMJARLET_REPORT_TOO_LONG = 10,           /* over 60,000 bytes; at 0 */
+    IMJARLET_REPORT_CUT_SHORT = 11,          /* a record is due and fewer bytes are left than it needs; there */
+    IMJARLET_REPORT_OTHER_KIND = 12,         /* a record of another kind is due; there */
+    IMJARLET_REPORT_BODY_LENGTH = 13,        /* the body's length is not 4 (kind 1), under 4 (kind 2) or not 2
+                                                (kind 3); at that record */
+    IMJARLET_REPORT_VERSION = 14,            /* the version is not 1; at that record */
+    IMJARLET_REPORT_NO_TRIALS = 15,          /* the report counts no trials; at that record */
+    IMJARLET_REPORT_NO_SUCH_WINNER = 16,     /* the winner is not below the count; at that record */
+    IMJARLET_REPORT_NOT_LOWEST = 17,         /* the winner is not the first of the lowest-scored; at kind 3 */
+    IMJARLET_REPORT_NOT_ACKNOWLEDGED = 18,   /* the shipping bytes are not all whole packets, one is not answered
+                                                by a write response, or a transfer is left open; at kind 4 */
+    IMJARLET_REPORT_OTHER_SETTINGS = 19,     /* the shipping packets leave other settings than the winner ended
+                                                with; at kind 4 */
+    IMJARLET_REPORT_BYTES_AFTER = 20         /* bytes follow kind 4; at the first of them */
+};
+
+/* LED drive, in counts, and a time, in microseconds: two types, that none is taken for the other. */
+typedef struct { uint16_t counts; } imjarlet_drive;
+typedef struct { uint32_t microseconds; } imjarlet_microseconds;
+
+/* 01 04: 0 to 1024 each. */
+typedef struct {
+    imjarlet_drive red;
+    imjarlet_drive green;
+    imjarlet_drive blue;
+} imjarlet_led_current;
+
+/* 01 06: any colour; the last byte is 0. */
+typedef struct {
+    uint8_t blue;
+    uint8_t green;
+    uint8_t red;
+    uint8_t last;
+} imjarlet_static_colour;
+
+/* 01 07: 0 or 1 each. */
+typedef struct {
+    uint8_t long_flip;
+    uint8_t short_flip;
+    uint8_t rotate;
+} imjarlet_display_setting;
+
+/* 02 00: X and Y a listed pair, the others any. */
+typedef struct {
+    uint16_t x;
+    uint16_t y;
+    uint16_t first_pixel;
+    uint16_t first_line;
+    uint16_t width;
+    uint16_t height;
+} imjarlet_video_input;
+
+/* 02 01: frame rate 15, 30, 40, 50 or 60; depth 1 to 8; LED 1 to 4. */
+typedef struct {
+    uint8_t rate;
+    uint8_t depth;
+    uint8_t led;
+} imjarlet_video_mode;
+
+/*
+ * 04 00: depth 1 to 8; count 1 to 96; inversion 0 to 2, nonzero only at depth 1; trigger 0 to 6, 6
+ * only at depth 1; any times; LED 0 to 2.
+ */
+typedef struct {
+    uint8_t depth;
+    uint8_t count;
+    uint8_t inversion;
+    uint8_t trigger;
+    imjarlet_microseconds delay;
+    imjarlet_microseconds period;
+    imjarlet_microseconds exposure;
+    uint8_t led;
+} imjarlet_pattern_sequence;
+
+/* The values of every command. */
+typedef struct {
+    uint8_t mode;                       /* 01 01 display mode: 0, 1, 2 or 4 */
+    uint8_t pattern;                    /* 01 03 test pattern: 0 to 13 */
+    imjarlet_led_current current;       /* 01 04 */
+    imjarlet_static_colour colour;      /* 01 06 */
+    imjarlet_display_setting setting;   /* 01 07 */
+    imjarlet_video_input input;         /* 02 00 */
+    imjarlet_video_mode video;          /* 02 01 */
+    imjarlet_pattern_sequence sequence; /* 04 00 */
+    uint8_t run;                        /* 04 02 sequence run: 0, or 1 in display mode 4 */
+} imjarlet_settings;
+
+/* The open transfer: its command and how many bytes of it are held. None is open where active is 0. */
+typedef struct {
+    uint8_t active;
+    uint8_t cmd1;
+    uint8_t cmd2;
+    size_t held;
+} imjarlet_transfer;
+
+/* What has come in of the current packet, and the payload bytes of the transfer and behind them its own. */
+typedef struct {
+    uint8_t header[6];
+    uint8_t sum;
+    size_t received;
+    uint8_t hold[IMJARLET_HOLD];
+} imjarlet_receiver;
+
+/*
+ * A head: 1,112 bytes that the caller owns and lends. Settings may be read at any time; bytes that
+ * other code has written there draw refusal 3 where they are out of rule.
+ */
+typedef struct {
+    imjarlet_settings settings;
+    imjarlet_transfer transfer;
+    imjarlet_receiver receiver;
+} imjarlet_controller;
+
+/*
+ * What a receive call answers.
+ *   refusal 0, complete 0   waiting: the input ended, all of it was taken, the output is untouched
+ *   refusal 0, complete 1   answered: one packet is complete; `taken` bytes of the input were taken and
+ *                           its response is the first `length` bytes of the output
+ *   refusal 1 or 3          refused: complete, taken and length are 0
+ */
+typedef struct {
+    uint8_t refusal;
+    uint8_t complete;
+    size_t taken;
+    size_t length;
+} imjarlet_receipt;
+
+/* What the encoder and the standard list answer: refusal 0 and the length written, or a refusal and 0. */
+typedef struct {
+    uint8_t refusal;
+    size_t length;
+} imjarlet_emitted;
+
+/*
+ * The answer to a report.
+ *   refusal 0          accepted: the trial named (from 0), its score and its end settings; place is 0
+ *   refusal 10 to 20   refused, at `place`; trial and score are 0 and the settings the factory values
+ */
+typedef struct {
+    uint8_t refusal;
+    size_t place;
+    size_t trial;
+    size_t score;
+    imjarlet_settings settings;
+} imjarlet_verdict;
+
+/* A head at power-up: factory values, nothing half received and no transfer open. */
+imjarlet_controller head_fresh(void);
+
+/* Makes *c a head at power-up, whatever stood there. */
+void head_reset(imjarlet_controller *c);
+
+/*
+ * Takes bytes of the input until it ends or one packet is complete, and carries that packet out. Call
+ * it again with the bytes behind those that were taken. Refusals 1 and 3.
+ */
+imjarlet_receipt head_receive(imjarlet_controller *c, const uint8_t *input, size_t input_length,
+                              uint8_t *out, size_t out_length);
+
+/*
+ * The whole-packet write of what `settings` has for the command CMD1 CMD2, at the output's start; the
+ * rest of the output is untouched, and no other part of `settings` is looked at. Run 1 is allowed in
+ * any display mode here. Refusals 1 and 2, tested in this order.
+ */
+imjarlet_emitted head_encode(uint8_t cmd1, uint8_t cmd2, imjarlet_settings settings,
+                             uint8_t *out, size_t out_length);
+
+/*
+ * The standard shipping list, at the output's start: one whole-packet write for each command, which
+ * bring a head at factory values to these settings. Refusals 1 and 3, tested in this order.
+ */
+imjarlet_emitted head_standard_list(imjarlet_settings settings, uint8_t *out, size_t out_length);
+
+/*
+ * Whether the settings that a tuning report ships are those that its best trial ended with.
+ * Refusals 10 to 20.
+ */
+imjarlet_verdict head_check_report(const uint8_t *report, size_t report_length);
+
+#ifdef __cplusplus
+}
+#endif
+
+#endif

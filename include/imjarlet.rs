@@ -1,0 +1,342 @@
+//! Imjarlet: the command endpoint of a projector head, and the checker of tuning reports, as safe
+//! Rust over the static library libhead.a, which `rt staticlib head` writes to target/staticlib.
+//!
+//! The archive holds x86-64 code for Linux (README.md). A program takes this file in by
+//! `#[path = "include/imjarlet.rs"] mod imjarlet;` and links by `-L target/staticlib -l static=head`.
+//! It needs nothing but `core`. Bytes are hexadecimal in the comments (01 04); numbers are decimal.
+#![allow(dead_code)]
+
+/// The shortest output that a receive call or the encoder takes.
+pub const OUTPUT_LEAST: usize = 64;
+/// The shortest output that the standard list takes.
+pub const LIST_OUTPUT_LEAST: usize = 128;
+/// The length of the standard list.
+pub const LIST_LENGTH: usize = 111;
+/// The most payload bytes of a transfer that are held.
+pub const HOLD: usize = 1024;
+/// The most bytes of a report.
+pub const REPORT_MOST: usize = 60000;
+
+/// LED drive, in counts.
+#[repr(C)]
+#[derive(Clone, Copy, PartialEq, Eq, Debug)]
+pub struct Drive(pub u16);
+
+/// A time, in microseconds.
+#[repr(C)]
+#[derive(Clone, Copy, PartialEq, Eq, Debug)]
+pub struct Microseconds(pub u32);
+
+/// 01 04: 0 to 1024 each.
+#[repr(C)]
+#[derive(Clone, Copy, PartialEq, Eq, Debug)]
+pub struct LedCurrent {
+    pub red: Drive,
+    pub green: Drive,
+    pub blue: Drive,
+}
+
+/// 01 06: any colour; the last byte is 0.
+#[repr(C)]
+#[derive(Clone, Copy, PartialEq, Eq, Debug)]
+pub struct StaticColour {
+    pub blue: u8,
+    pub green: u8,
+    pub red: u8,
+    pub last: u8,
+}
+
+/// 01 07: 0 or 1 each.
+#[repr(C)]
+#[derive(Clone, Copy, PartialEq, Eq, Debug)]
+pub struct DisplaySetting {
+    pub long_flip: u8,
+    pub short_flip: u8,
+    pub rotate: u8,
+}
+
+/// 02 00: X and Y a listed pair, the others any.
+#[repr(C)]
+#[derive(Clone, Copy, PartialEq, Eq, Debug)]
+pub struct VideoInput {
+    pub x: u16,
+    pub y: u16,
+    pub first_pixel: u16,
+    pub first_line: u16,
+    pub width: u16,
+    pub height: u16,
+}
+
+/// 02 01: frame rate 15, 30, 40, 50 or 60; depth 1 to 8; LED 1 to 4.
+#[repr(C)]
+#[derive(Clone, Copy, PartialEq, Eq, Debug)]
+pub struct VideoMode {
+    pub rate: u8,
+    pub depth: u8,
+    pub led: u8,
+}
+
+/// 04 00: depth 1 to 8; count 1 to 96; inversion 0 to 2, nonzero only at depth 1; trigger 0 to 6, 6
+/// only at depth 1; any times; LED 0 to 2.
+#[repr(C)]
+#[derive(Clone, Copy, PartialEq, Eq, Debug)]
+pub struct PatternSequence {
+    pub depth: u8,
+    pub count: u8,
+    pub inversion: u8,
+    pub trigger: u8,
+    pub delay: Microseconds,
+    pub period: Microseconds,
+    pub exposure: Microseconds,
+    pub led: u8,
+}
+
+/// The values of every command.
+#[repr(C)]
+#[derive(Clone, Copy, PartialEq, Eq, Debug)]
+pub struct Settings {
+    /// 01 01 display mode: 0, 1, 2 or 4
+    pub mode: u8,
+    /// 01 03 test pattern: 0 to 13
+    pub pattern: u8,
+    /// 01 04
+    pub current: LedCurrent,
+    /// 01 06
+    pub colour: StaticColour,
+    /// 01 07
+    pub setting: DisplaySetting,
+    /// 02 00
+    pub input: VideoInput,
+    /// 02 01
+    pub video: VideoMode,
+    /// 04 00
+    pub sequence: PatternSequence,
+    /// 04 02 sequence run: 0, or 1 in display mode 4
+    pub run: u8,
+}
+
+/// The open transfer: its command and how many bytes of it are held. None is open where `active`
+/// is 0.
+#[repr(C)]
+#[derive(Clone, Copy, PartialEq, Eq, Debug)]
+pub struct Transfer {
+    pub active: u8,
+    pub cmd1: u8,
+    pub cmd2: u8,
+    pub held: usize,
+}
+
+/// What has come in of the current packet, and the payload bytes of the transfer and behind them
+/// its own.
+#[repr(C)]
+#[derive(Clone, PartialEq, Eq, Debug)]
+pub struct Receiver {
+    pub header: [u8; 6],
+    pub sum: u8,
+    pub received: usize,
+    pub hold: [u8; HOLD],
+}
+
+/// A head. All its fields may be read and written: the calls answer on any numbers.
+#[repr(C)]
+#[derive(Clone, PartialEq, Eq, Debug)]
+pub struct Controller {
+    pub settings: Settings,
+    pub transfer: Transfer,
+    pub receiver: Receiver,
+}
+
+/// What a call refuses. It then takes nothing and leaves output and controller as they were.
+#[derive(Clone, Copy, PartialEq, Eq, Debug)]
+pub enum Refusal {
+    /// 1: the output is shorter than 64 bytes, or 128 for the standard list.
+    ShortOutput,
+    /// 2: the encoder was given a value that is not allowed, or a command that is not in the table.
+    NotAllowed,
+    /// 3: the controller or the settings are out of rule.
+    OutOfRule,
+}
+
+/// What a receive call answers.
+#[derive(Clone, Copy, PartialEq, Eq, Debug)]
+pub enum Answer {
+    /// The input ended before a packet did; all of it was taken and the output is untouched.
+    Waiting { taken: usize },
+    /// One packet is complete, and its response is the first `length` bytes of the output.
+    Answered { taken: usize, length: usize },
+}
+
+/// The trial that an accepted report names, from 0, its score and the settings that it ended with.
+#[derive(Clone, Copy, PartialEq, Eq, Debug)]
+pub struct Accepted {
+    pub trial: usize,
+    pub score: usize,
+    pub settings: Settings,
+}
+
+/// Why a report is refused.
+#[derive(Clone, Copy, PartialEq, Eq, Debug)]
+#[repr(u8)]
+pub enum Reason {
+    /// Over 60,000 bytes.
+    TooLong = 10,
+    /// A record is due and fewer bytes are left than its header or body needs.
+    CutShort = 11,
+    /// A record of another kind is due.
+    OtherKind = 12,
+    /// The body's length is not 4 (kind 1), under 4 (kind 2) or not 2 (kind 3).
+    BodyLength = 13,
+    /// The version is not 1.
+    Version = 14,
+    /// The report counts no trials.
+    NoTrials = 15,
+    /// The winner is not below the count.
+    NoSuchWinner = 16,
+    /// The winner is not the first of the lowest-scored trials.
+    NotLowest = 17,
+    /// The shipping bytes are not all whole packets, one is not answered by a write response, or a
+    /// transfer is left open.
+    NotAcknowledged = 18,
+    /// The shipping packets leave other settings than the winner ended with.
+    OtherSettings = 19,
+    /// Bytes follow the shipping record.
+    BytesAfter = 20,
+}
+
+/// A refused report: why, and the offset of the first byte of what is refused.
+#[derive(Clone, Copy, PartialEq, Eq, Debug)]
+pub struct Refused {
+    pub reason: Reason,
+    pub place: usize,
+}
+
+/// The calls as the library exports them: a slice goes as a pointer and then a length.
+pub mod raw {
+    use super::{Controller, Settings};
+
+    #[repr(C)]
+    pub struct Receipt {
+        pub refusal: u8,
+        pub complete: u8,
+        pub taken: usize,
+        pub length: usize,
+    }
+
+    #[repr(C)]
+    pub struct Emitted {
+        pub refusal: u8,
+        pub length: usize,
+    }
+
+    #[repr(C)]
+    pub struct Verdict {
+        pub refusal: u8,
+        pub place: usize,
+        pub trial: usize,
+        pub score: usize,
+        pub settings: Settings,
+    }
+
+    unsafe extern "C" {
+        pub fn head_fresh() -> Controller;
+        pub fn head_reset(c: *mut Controller);
+        pub fn head_receive(
+            c: *mut Controller,
+            input: *const u8,
+            input_length: usize,
+            out: *mut u8,
+            out_length: usize,
+        ) -> Receipt;
+        pub fn head_encode(
+            cmd1: u8,
+            cmd2: u8,
+            settings: Settings,
+            out: *mut u8,
+            out_length: usize,
+        ) -> Emitted;
+        pub fn head_standard_list(settings: Settings, out: *mut u8, out_length: usize) -> Emitted;
+        pub fn head_check_report(report: *const u8, report_length: usize) -> Verdict;
+    }
+}
+
+fn refusal(number: u8) -> Refusal {
+    match number {
+        1 => Refusal::ShortOutput,
+        2 => Refusal::NotAllowed,
+        3 => Refusal::OutOfRule,
+        _ => unreachable!("no call refuses with {number}"),
+    }
+}
+
+fn reason(number: u8) -> Reason {
+    match number {
+        10 => Reason::TooLong,
+        11 => Reason::CutShort,
+        12 => Reason::OtherKind,
+        13 => Reason::BodyLength,
+        14 => Reason::Version,
+        15 => Reason::NoTrials,
+        16 => Reason::NoSuchWinner,
+        17 => Reason::NotLowest,
+        18 => Reason::NotAcknowledged,
+        19 => Reason::OtherSettings,
+        20 => Reason::BytesAfter,
+        _ => unreachable!("no report is refused with {number}"),
+    }
+}
+
+impl Controller {
+    /// A head at power-up: factory values, nothing half received and no transfer open.
+    pub fn fresh() -> Controller {
+        unsafe { raw::head_fresh() }
+    }
+
+    /// Makes this a head at power-up, whatever it was.
+    pub fn reset(&mut self) {
+        unsafe { raw::head_reset(self) }
+    }
+
+    /// Takes bytes of the input until it ends or one packet is complete, and carries that packet
+    /// out. Call it again with the bytes behind those that were taken. Refuses a short output and a
+    /// controller that is out of rule.
+    pub fn receive(&mut self, input: &[u8], out: &mut [u8]) -> Result<Answer, Refusal> {
+        let r = unsafe {
+            raw::head_receive(self, input.as_ptr(), input.len(), out.as_mut_ptr(), out.len())
+        };
+        match (r.refusal, r.complete) {
+            (0, 0) => Ok(Answer::Waiting { taken: r.taken }),
+            (0, _) => Ok(Answer::Answered { taken: r.taken, length: r.length }),
+            (number, _) => Err(refusal(number)),
+        }
+    }
+}
+
+fn emitted(e: raw::Emitted) -> Result<usize, Refusal> {
+    match e.refusal {
+        0 => Ok(e.length),
+        number => Err(refusal(number)),
+    }
+}
+
+/// The whole-packet write of what `settings` has for the command CMD1 CMD2, at the output's start:
+/// its length. No other part of `settings` is looked at. Refuses a short output, a value that is not
+/// allowed and a command that is not in the table.
+pub fn encode(cmd1: u8, cmd2: u8, settings: &Settings, out: &mut [u8]) -> Result<usize, Refusal> {
+    emitted(unsafe { raw::head_encode(cmd1, cmd2, *settings, out.as_mut_ptr(), out.len()) })
+}
+
+/// The standard shipping list, at the output's start: one whole-packet write for each command, which
+/// bring a head at factory values to these settings. Refuses a short output and settings that are
+/// out of rule.
+pub fn standard_list(settings: &Settings, out: &mut [u8]) -> Result<usize, Refusal> {
+    emitted(unsafe { raw::head_standard_list(*settings, out.as_mut_ptr(), out.len()) })
+}
+
+/// Whether the settings that a tuning report ships are those that its best trial ended with.
+pub fn check_report(report: &[u8]) -> Result<Accepted, Refused> {
+    let v = unsafe { raw::head_check_report(report.as_ptr(), report.len()) };
+    match v.refusal {
+        0 => Ok(Accepted { trial: v.trial, score: v.score, settings: v.settings }),
+        number => Err(Refused { reason: reason(number), place: v.place }),
+    }
+}

@@ -1,0 +1,877 @@
+//! The library against the model, on what a seeded generator makes up.
+//!
+//!     differential [N] [SEED] [--plant K] [--exact]
+//!
+//! N packets and N/10 reports (1,000,000 and 100,000). After each call the answer, every field of
+//! the controller and every byte of the output are compared. A case that differs is made smaller,
+//! printed as hex, and the exit status is 1. --plant K puts fault K into the model, to see that it
+//! is found. --exact lends the library buffers of exactly the length named, for valgrind.
+
+mod examples;
+mod ffi;
+mod generate;
+mod model;
+
+use generate::{Report, Rng};
+use model::{Command, Controller, Settings};
+use std::fmt::Write;
+
+/// A cut that leaves all the bytes together.
+const ALL: usize = usize::MAX;
+/// Bytes behind an output that no call may touch.
+const BEHIND: usize = 16;
+/// Room for the longest output that is lent, with as many bytes before and behind it.
+const LENT: usize = BEHIND + 130 + BEHIND;
+
+/// What came up, and how often.
+#[derive(Default)]
+struct Tally {
+    codes: [u64; 16],
+    receive_refusals: [u64; 4],
+    emit_refusals: [u64; 4],
+    verdicts: [u64; 21],
+    waiting: u64,
+    written: u64,
+    read: u64,
+    errors: u64,
+    calls: u64,
+    one_byte_calls: u64,
+    packets: u64,
+    encoded: u64,
+    lists: u64,
+    reports: u64,
+    damaged: u64,
+    /// Payloads of 1,024, of 1,025 and of 65,535 bytes.
+    long: [u64; 3],
+    resets: u64,
+}
+
+/// A stream of bytes for one controller: the cuts and the output lengths are used in turn.
+#[derive(Clone, PartialEq)]
+struct Stream {
+    start: Controller,
+    parts: Vec<Vec<u8>>,
+    cuts: Vec<usize>,
+    outs: Vec<usize>,
+    canary: u8,
+    reset: bool,
+}
+
+#[derive(Clone)]
+enum Case {
+    Stream(Box<Stream>),
+    Encode {
+        cmd: [u8; 2],
+        settings: Settings,
+        out: usize,
+    },
+    List {
+        settings: Settings,
+        out: usize,
+    },
+    Report(Vec<u8>),
+}
+
+struct Harness {
+    exact: bool,
+    tally: Tally,
+}
+
+fn hex(bytes: &[u8]) -> String {
+    let mut text = String::new();
+    for byte in bytes {
+        let _ = write!(text, "{byte:02X} ");
+    }
+    text.pop();
+    text
+}
+
+/// The first field in which the library's controller is not the model's.
+fn unlike(library: &ffi::Controller, model: &Controller) -> Option<String> {
+    let wanted = ffi::Settings::from(&model.state.settings);
+    if library.settings != wanted {
+        return Some(format!(
+            "settings {:?}, model {:?}",
+            library.settings, wanted
+        ));
+    }
+    let t = &model.state.transfer;
+    let wanted = ffi::TransferState {
+        active: t.mark,
+        cmd1: t.command[0],
+        cmd2: t.command[1],
+        held: t.held,
+    };
+    if library.transfer != wanted {
+        return Some(format!(
+            "transfer {:?}, model {:?}",
+            library.transfer, wanted
+        ));
+    }
+    let r = &library.receiver;
+    if (r.header, r.sum, r.received) != (model.header, model.sum, model.received) {
+        return Some(format!(
+            "header {} sum {:02X} received {}, model {} {:02X} {}",
+            hex(&r.header),
+            r.sum,
+            r.received,
+            hex(&model.header),
+            model.sum,
+            model.received
+        ));
+    }
+    if r.hold != model.hold {
+        let at = (0..1024).find(|&i| r.hold[i] != model.hold[i]).unwrap_or(0);
+        return Some(format!(
+            "hold[{at}] {:02X}, model {:02X}",
+            r.hold[at], model.hold[at]
+        ));
+    }
+    None
+}
+
+impl Harness {
+    /// Gives both sides an output of `length` bytes, filled with the canary, and compares every
+    /// byte afterwards.
+    fn lend<A: PartialEq + std::fmt::Debug>(
+        &self,
+        length: usize,
+        canary: u8,
+        library: impl FnOnce(&mut [u8]) -> A,
+        model: impl FnOnce(&mut [u8]) -> A,
+    ) -> Result<(A, [u8; LENT]), String> {
+        let mut wanted = [canary; LENT];
+        let mut got = [canary; LENT];
+        let answer = if self.exact {
+            let mut out = vec![canary; length].into_boxed_slice();
+            let answer = library(&mut out);
+            got[..length].copy_from_slice(&out);
+            answer
+        } else {
+            library(&mut got[BEHIND..][..length])
+        };
+        if !self.exact {
+            let before = got[..BEHIND].iter().all(|&b| b == canary);
+            if !before {
+                return Err(format!(
+                    "bytes before the output written: {}",
+                    hex(&got[..BEHIND])
+                ));
+            }
+            got.copy_within(BEHIND.., 0);
+        }
+        let expected = model(&mut wanted[..length]);
+        if answer != expected {
+            return Err(format!("answer {answer:?}, model {expected:?}"));
+        }
+        if got[..length + BEHIND] != wanted[..length + BEHIND] {
+            return Err(format!(
+                "output {}, model {}",
+                hex(&got[..length + 4]),
+                hex(&wanted[..length + 4])
+            ));
+        }
+        Ok((answer, wanted))
+    }
+
+    fn run(&mut self, case: &Case) -> Result<(), String> {
+        match case {
+            Case::Stream(stream) => self.run_stream(stream),
+            Case::Encode { cmd, settings, out } => {
+                let theirs = ffi::Settings::from(settings);
+                let (answer, _) = self.lend(
+                    *out,
+                    0xA5,
+                    |b| ffi::encode(cmd[0], cmd[1], &theirs, b),
+                    |b| model::encode(Command::from_bytes(cmd[0], cmd[1]), settings, b).into(),
+                )?;
+                self.tally.encoded += 1;
+                self.tally.emit_refusals[answer.refusal as usize] += 1;
+                Ok(())
+            }
+            Case::List { settings, out } => {
+                let theirs = ffi::Settings::from(settings);
+                let (answer, _) = self.lend(
+                    *out,
+                    0x5A,
+                    |b| ffi::standard_list(&theirs, b),
+                    |b| model::standard_list(settings, b).into(),
+                )?;
+                self.tally.lists += 1;
+                self.tally.emit_refusals[answer.refusal as usize] += 1;
+                Ok(())
+            }
+            Case::Report(bytes) => {
+                let answer = if self.exact {
+                    ffi::check_report(&bytes.clone().into_boxed_slice())
+                } else {
+                    ffi::check_report(bytes)
+                };
+                let wanted = ffi::Verdict::from(model::check_report(bytes));
+                if answer != wanted {
+                    return Err(format!("verdict {answer:?}, model {wanted:?}"));
+                }
+                self.tally.reports += 1;
+                self.tally.verdicts[answer.refusal as usize] += 1;
+                Ok(())
+            }
+        }
+    }
+
+    /// Runs a case; one that differs is made smaller and printed, and ends the program.
+    fn hold(&mut self, case: Case, kind: &str, seed: u64) {
+        if self.run(&case).is_ok() {
+            return;
+        }
+        let case = shrink(self, case);
+        let what = self.run(&case).err().unwrap_or_default();
+        println!("DIFFERENT ({kind}, seed {seed}): {what}");
+        show(&case);
+        std::process::exit(1);
+    }
+
+    fn run_stream(&mut self, stream: &Stream) -> Result<(), String> {
+        let bytes = stream.parts.concat();
+        let mut ours = stream.start;
+        let mut theirs = ffi::Controller::from(&ours);
+        let mut at = 0;
+        let mut idle = 0;
+        for call in 0.. {
+            let cut = stream.cuts[call % stream.cuts.len()].min(bytes.len() - at);
+            let length = stream.outs[call % stream.outs.len()];
+            let input = &bytes[at..at + cut];
+            let lent: Box<[u8]> = if self.exact {
+                input.into()
+            } else {
+                Box::default()
+            };
+            let (answer, out) = self
+                .lend(
+                    length,
+                    stream.canary.wrapping_add(call as u8),
+                    |b| ffi::receive(&mut theirs, if self.exact { &lent } else { input }, b),
+                    |b| ours.receive(input, b).into(),
+                )
+                .map_err(|what| format!("call {call} at byte {at}: {what}"))?;
+            if let Some(what) = unlike(&theirs, &ours) {
+                return Err(format!(
+                    "call {call} at byte {at}, answer {answer:?}: {what}"
+                ));
+            }
+            self.note(cut, &answer, &out);
+            at += answer.taken;
+            idle = if answer.taken == 0 { idle + 1 } else { 0 };
+            // Nothing more comes of the end of the input, nor of a controller that is refused.
+            if (at == bytes.len() && idle > 0) || answer.refusal == 3 || idle > 20 {
+                break;
+            }
+        }
+        if stream.reset {
+            ffi::reset(&mut theirs);
+            if let Some(what) = unlike(&theirs, &Controller::default()) {
+                return Err(format!("after reset: {what}"));
+            }
+            self.tally.resets += 1;
+        }
+        Ok(())
+    }
+
+    fn note(&mut self, cut: usize, answer: &ffi::Receipt, out: &[u8]) {
+        let tally = &mut self.tally;
+        tally.calls += 1;
+        tally.one_byte_calls += (cut == 1) as u64;
+        tally.receive_refusals[answer.refusal as usize] += 1;
+        if answer.refusal != 0 {
+            return;
+        }
+        if answer.complete == 0 {
+            tally.waiting += 1;
+            return;
+        }
+        tally.packets += 1;
+        match out[0] {
+            1 => {
+                tally.errors += 1;
+                for &code in &out[6..answer.length - 1] {
+                    tally.codes[code as usize % 16] += 1;
+                }
+            }
+            3 => tally.written += 1,
+            _ => tally.read += 1,
+        }
+    }
+}
+
+// ---------------------------------------------------------------------------------------------
+// Cases
+
+fn cuts(rng: &mut Rng, total: usize) -> Vec<usize> {
+    match rng.below(10) {
+        0..=3 => vec![ALL],
+        4 | 5 if total < 3000 || rng.one_in(40) => vec![1],
+        6 => vec![rng.pick(&[5, 6, 7, 8])],
+        7 => (0..5).map(|_| 1 + rng.below(9)).collect(),
+        8 => (0..7).map(|_| rng.below(4)).chain([3]).collect(),
+        _ => (0..5).map(|_| 1 + rng.below(total.max(2))).collect(),
+    }
+}
+
+fn outs(rng: &mut Rng) -> Vec<usize> {
+    match rng.below(16) {
+        0 => (0..4).map(|_| rng.below(131)).chain([64]).collect(),
+        1 => vec![63, 64, 65],
+        2 => vec![128, 127, 129],
+        3 => vec![rng.below(131)],
+        _ => vec![64 + rng.below(67)],
+    }
+}
+
+fn stream_case(rng: &mut Rng) -> Stream {
+    let kind = rng.below(8);
+    let (start, mut parts) = match kind {
+        0 | 1 => {
+            let c = if kind == 0 {
+                generate::damaged_controller(rng)
+            } else {
+                generate::controller_in_rule(rng)
+            };
+            let rest = generate::remainder(rng, &c);
+            (c, vec![rest])
+        }
+        _ => (Controller::default(), Vec::new()),
+    };
+    let groups = if kind == 0 {
+        rng.below(3)
+    } else {
+        1 + rng.below(12)
+    };
+    for _ in 0..groups {
+        let longest = if rng.one_in(8) { 65535 } else { 1100 };
+        generate::some_packets(rng, &mut parts, longest);
+    }
+    if rng.one_in(12) {
+        if let Some(last) = parts.last_mut() {
+            last.truncate(rng.below(last.len() + 1));
+        }
+    }
+    let total = parts.iter().map(Vec::len).sum();
+    Stream {
+        start,
+        parts,
+        cuts: cuts(rng, total),
+        outs: outs(rng),
+        canary: rng.byte(),
+        reset: rng.one_in(4),
+    }
+}
+
+fn emit_case(rng: &mut Rng) -> Case {
+    let settings = if rng.one_in(2) {
+        generate::settings_in_rule(rng)
+    } else {
+        generate::doubtful_settings(rng)
+    };
+    if rng.one_in(3) {
+        let out = if rng.one_in(4) {
+            rng.below(131)
+        } else {
+            126 + rng.below(5)
+        };
+        return Case::List { settings, out };
+    }
+    let cmd = if rng.one_in(8) {
+        [rng.below(6) as u8, rng.below(9) as u8]
+    } else {
+        rng.pick(&Command::ALL).bytes()
+    };
+    let out = if rng.one_in(4) {
+        rng.below(131)
+    } else {
+        62 + rng.below(10)
+    };
+    Case::Encode { cmd, settings, out }
+}
+
+/// One packet for a fresh controller.
+fn single(bytes: Vec<u8>, out: usize) -> Case {
+    Case::Stream(Box::new(Stream {
+        start: Controller::default(),
+        parts: vec![bytes],
+        cuts: vec![ALL],
+        outs: vec![out],
+        canary: 0x3C,
+        reset: false,
+    }))
+}
+
+/// What is few enough to try all of: output lengths, commands, types, flags and single values.
+fn swept() -> impl Iterator<Item = Case> {
+    let factory = Settings::FACTORY;
+    let lengths = (0..=130).flat_map(move |out| {
+        let encode = move |c: Command| Case::Encode {
+            cmd: c.bytes(),
+            settings: factory,
+            out,
+        };
+        let read = |c: Command| generate::packet(4, c.bytes(), 0, &[]);
+        let packets = Command::ALL
+            .map(read)
+            .into_iter()
+            .chain([vec![], vec![2], vec![7; 14]]);
+        let list = Case::List {
+            settings: factory,
+            out,
+        };
+        let calls = packets.map(move |bytes| single(bytes, out));
+        Command::ALL
+            .into_iter()
+            .map(encode)
+            .chain([list])
+            .chain(calls)
+    });
+    let commands = (0..=0xFFFF).flat_map(move |n: u16| {
+        let cmd = n.to_be_bytes();
+        let packet = |kind| single(generate::packet(kind, cmd, 0, &[]), 64);
+        [
+            Case::Encode {
+                cmd,
+                settings: factory,
+                out: 64,
+            },
+            packet(2),
+            packet(4),
+        ]
+    });
+    let kinds = (0..=0xFFFF).map(|n: u16| {
+        let [kind, flags] = n.to_be_bytes();
+        single(generate::packet(kind, [1, 3], flags, &[5]), 64)
+    });
+    let values = generate::every_value()
+        .into_iter()
+        .flat_map(move |(command, data)| {
+            let mut settings = factory;
+            settings.set(command, &data);
+            let mut damaged = Controller::default();
+            damaged.state.settings = settings;
+            let mut start = single(vec![2], 64);
+            if let Case::Stream(stream) = &mut start {
+                stream.start = damaged;
+            }
+            let write = generate::packet(2, command.bytes(), 0, &data);
+            let cmd = command.bytes();
+            [
+                Case::Encode {
+                    cmd,
+                    settings,
+                    out: 64,
+                },
+                Case::List { settings, out: 128 },
+                single(write, 64),
+                start,
+            ]
+        });
+    lengths.chain(commands).chain(kinds).chain(values)
+}
+
+// ---------------------------------------------------------------------------------------------
+// Making a failing case smaller
+
+/// The same bytes with a stretch left out or set to zero: longer stretches first.
+fn stretches(bytes: &[u8]) -> impl Iterator<Item = Vec<u8>> + '_ {
+    let sizes = std::iter::successors(Some(bytes.len()), |&n| (n > 1).then_some(n / 2));
+    let places = move |n: usize| (0..bytes.len()).step_by(n.max(1)).map(move |at| (n, at));
+    sizes
+        .filter(|&n| n > 0)
+        .flat_map(places)
+        .flat_map(move |(n, at)| {
+            let end = (at + n).min(bytes.len());
+            let without = [&bytes[..at], &bytes[end..]].concat();
+            let mut zeros = bytes.to_vec();
+            zeros[at..end].fill(0);
+            let changed = zeros != bytes;
+            [Some(without), changed.then_some(zeros)]
+                .into_iter()
+                .flatten()
+        })
+}
+
+/// The packets that bytes are cut into, and what is left.
+fn packets(bytes: &[u8]) -> Vec<Vec<u8>> {
+    let mut parts = Vec::new();
+    let mut rest = bytes;
+    while rest.len() >= 7 {
+        let length = 7 + u16::from_le_bytes([rest[4], rest[5]]) as usize;
+        if rest.len() < length {
+            break;
+        }
+        parts.push(rest[..length].to_vec());
+        rest = &rest[length..];
+    }
+    if !rest.is_empty() {
+        parts.push(rest.to_vec());
+    }
+    parts
+}
+
+fn smaller_stream(s: &Stream) -> Vec<Case> {
+    let mut cases = Vec::new();
+    let mut push = |change: &dyn Fn(&mut Stream)| {
+        let mut next = s.clone();
+        change(&mut next);
+        if next != *s {
+            cases.push(Case::Stream(Box::new(next)));
+        }
+    };
+    let fresh = Controller::default();
+    push(&|n| n.start = fresh);
+    push(&|n| n.start.state.settings = fresh.state.settings);
+    push(&|n| n.start.state.transfer = fresh.state.transfer);
+    push(&|n| n.start.header = fresh.header);
+    push(&|n| n.start.sum = 0);
+    push(&|n| n.start.received = 0);
+    push(&|n| n.start.hold = fresh.hold);
+    push(&|n| n.start.state.transfer.held = 0);
+    for i in 0..48 {
+        push(&|n| n.start.state.settings.0[i] = fresh.state.settings.0[i]);
+    }
+    push(&|n| n.reset = false);
+    for i in 0..s.parts.len() {
+        push(&|n| {
+            n.parts.remove(i);
+        });
+    }
+    push(&|n| n.cuts = vec![ALL]);
+    if s.cuts.len() > 1 {
+        s.cuts.iter().for_each(|&cut| push(&|n| n.cuts = vec![cut]));
+    }
+    push(&|n| n.outs = vec![64]);
+    if s.outs.len() > 1 {
+        s.outs.iter().for_each(|&out| push(&|n| n.outs = vec![out]));
+    }
+    for (i, part) in s.parts.iter().enumerate() {
+        for bytes in stretches(part).take(6000) {
+            push(&|n| n.parts[i] = bytes.clone());
+        }
+    }
+    cases
+}
+
+fn smaller_report(bytes: &[u8]) -> Vec<Case> {
+    let mut cases = Vec::new();
+    if let Some(report) = Report::parse(bytes) {
+        let mut push = |next: Report| cases.push(Case::Report(next.bytes()));
+        for i in 0..report.trials.len() {
+            let mut next = report.clone();
+            next.trials.remove(i);
+            push(next.clone());
+            if next.winner > 0 {
+                next.winner -= 1;
+                push(next);
+            }
+        }
+        for i in 0..=report.trials.len() {
+            let body = report.trials.get(i).map_or(&report.shipping, |t| &t.1);
+            let parts = packets(body);
+            for out in 0..parts.len() {
+                let mut rest = parts.clone();
+                rest.remove(out);
+                let mut next = report.clone();
+                match next.trials.get_mut(i) {
+                    Some(trial) => trial.1 = rest.concat(),
+                    None => next.shipping = rest.concat(),
+                }
+                push(next);
+            }
+        }
+    }
+    cases.extend(stretches(bytes).take(6000).map(Case::Report));
+    cases
+}
+
+fn smaller(case: &Case) -> Vec<Case> {
+    match case {
+        Case::Stream(stream) => smaller_stream(stream),
+        Case::Report(bytes) => smaller_report(bytes),
+        Case::Encode { cmd, settings, out } => {
+            let mut cases = Vec::new();
+            for i in 0..48 {
+                let mut next = *settings;
+                next.0[i] = Settings::FACTORY.0[i];
+                if next != *settings {
+                    cases.push(Case::Encode {
+                        cmd: *cmd,
+                        settings: next,
+                        out: *out,
+                    });
+                }
+            }
+            if *out != 64 {
+                cases.push(Case::Encode {
+                    cmd: *cmd,
+                    settings: *settings,
+                    out: 64,
+                });
+            }
+            cases
+        }
+        Case::List { settings, out } => {
+            let mut cases = Vec::new();
+            for i in 0..48 {
+                let mut next = *settings;
+                next.0[i] = Settings::FACTORY.0[i];
+                if next != *settings {
+                    cases.push(Case::List {
+                        settings: next,
+                        out: *out,
+                    });
+                }
+            }
+            if *out != 128 {
+                cases.push(Case::List {
+                    settings: *settings,
+                    out: 128,
+                });
+            }
+            cases
+        }
+    }
+}
+
+/// Takes the first smaller case that still differs, until there is none or enough was tried.
+fn shrink(harness: &mut Harness, case: Case) -> Case {
+    let mut case = case;
+    let mut tries = 50_000;
+    'next: loop {
+        for candidate in smaller(&case) {
+            if tries == 0 {
+                return case;
+            }
+            tries -= 1;
+            if harness.run(&candidate).is_err() {
+                case = candidate;
+                continue 'next;
+            }
+        }
+        return case;
+    }
+}
+
+fn show(case: &Case) {
+    match case {
+        Case::Stream(s) => {
+            if s.start == Controller::default() {
+                println!("  controller: fresh");
+            } else {
+                let t = &s.start.state.transfer;
+                println!("  controller: settings {}", hex(&s.start.state.settings.0));
+                println!(
+                    "    transfer mark {} command {} held {}",
+                    t.mark,
+                    hex(&t.command),
+                    t.held
+                );
+                println!(
+                    "    header {} sum {:02X} received {}",
+                    hex(&s.start.header),
+                    s.start.sum,
+                    s.start.received
+                );
+                let used = s
+                    .start
+                    .hold
+                    .iter()
+                    .rposition(|&b| b != 0)
+                    .map_or(0, |n| n + 1);
+                println!("    hold {} then zeros", hex(&s.start.hold[..used]));
+            }
+            for part in &s.parts {
+                println!("  input: {}", hex(part));
+            }
+            if s.cuts != [ALL] {
+                println!("  given {:?} bytes at a time", s.cuts);
+            }
+            println!("  output lengths: {:?}, reset: {}", s.outs, s.reset);
+        }
+        Case::Encode { cmd, settings, out } => {
+            println!(
+                "  encode {} output {out} settings {}",
+                hex(cmd),
+                hex(&settings.0)
+            );
+        }
+        Case::List { settings, out } => {
+            println!(
+                "  standard list, output {out} settings {}",
+                hex(&settings.0)
+            );
+        }
+        Case::Report(bytes) => println!("  report ({} bytes): {}", bytes.len(), hex(bytes)),
+    }
+}
+
+// ---------------------------------------------------------------------------------------------
+
+/// What a run that tried everything has seen: each of these at least once.
+fn missing(t: &Tally) -> Vec<String> {
+    let mut none = Vec::new();
+    let mut need = |name: String, seen: u64| {
+        if seen == 0 {
+            none.push(name);
+        }
+    };
+    for code in [2, 3, 4, 7, 9, 0x0A, 0x0B] {
+        need(format!("code {code:02X}"), t.codes[code]);
+    }
+    need("refusal 1 of receive".into(), t.receive_refusals[1]);
+    need("refusal 3 of receive".into(), t.receive_refusals[3]);
+    for refusal in 1..4 {
+        need(
+            format!("refusal {refusal} of encode or list"),
+            t.emit_refusals[refusal],
+        );
+    }
+    for refusal in 10..21 {
+        need(format!("refusal {refusal}"), t.verdicts[refusal]);
+    }
+    need("accepted".into(), t.verdicts[0]);
+    need("waiting".into(), t.waiting);
+    need("write response".into(), t.written);
+    need("read response".into(), t.read);
+    need("encoded".into(), t.emit_refusals[0]);
+    need("reset".into(), t.resets);
+    none
+}
+
+fn summary(t: &Tally) {
+    println!(
+        "receive: {} calls ({} of one byte), {} packets: {} written, {} read, {} errors; {} waiting, \
+         refusal 1: {}, 3: {}; {} damaged or half-way controllers, {} resets",
+        t.calls,
+        t.one_byte_calls,
+        t.packets,
+        t.written,
+        t.read,
+        t.errors,
+        t.waiting,
+        t.receive_refusals[1],
+        t.receive_refusals[3],
+        t.damaged,
+        t.resets
+    );
+    println!(
+        "payloads of 1,024 bytes: {}, of 1,025: {}, of 65,535: {}",
+        t.long[0], t.long[1], t.long[2]
+    );
+    let codes: Vec<String> = (0..16)
+        .filter(|&code| t.codes[code] > 0)
+        .map(|code| format!("{code:02X}: {}", t.codes[code]))
+        .collect();
+    println!("codes: {}", codes.join(", "));
+    println!(
+        "encode: {}, standard list: {}; written: {}, refusal 1: {}, 2: {}, 3: {}",
+        t.encoded,
+        t.lists,
+        t.emit_refusals[0],
+        t.emit_refusals[1],
+        t.emit_refusals[2],
+        t.emit_refusals[3]
+    );
+    let refusals: Vec<String> = (10..21)
+        .map(|refusal| format!("{refusal}: {}", t.verdicts[refusal]))
+        .collect();
+    println!(
+        "reports: {}; accepted: {}, refused {}",
+        t.reports,
+        t.verdicts[0],
+        refusals.join(", ")
+    );
+}
+
+fn main() {
+    let mut numbers = Vec::new();
+    let mut plant = 0;
+    let mut exact = false;
+    let mut arguments = std::env::args().skip(1);
+    while let Some(argument) = arguments.next() {
+        match argument.as_str() {
+            "--exact" => exact = true,
+            "--plant" => plant = arguments.next().and_then(|n| n.parse().ok()).unwrap_or(0),
+            "--plants" => return println!("{}", model::PLANTS.len()),
+            number => match number.parse::<u64>() {
+                Ok(number) => numbers.push(number),
+                Err(_) => {
+                    eprintln!("usage: differential [N] [SEED] [--plant K] [--exact]");
+                    std::process::exit(2);
+                }
+            },
+        }
+    }
+    let count = numbers.first().copied().unwrap_or(1_000_000);
+    let seed = numbers.get(1).copied().unwrap_or_else(|| {
+        let now = std::time::SystemTime::now().duration_since(std::time::UNIX_EPOCH);
+        now.map_or(1, |t| t.as_nanos() as u64 >> 10)
+    });
+    println!(
+        "differential: {count} packets, {} reports, seed {seed}",
+        count / 10
+    );
+    #[cfg(plants)]
+    if plant > 0 {
+        println!("planted in the model: {}", model::PLANTS[plant - 1]);
+        model::PLANT.store(plant, std::sync::atomic::Ordering::Relaxed);
+    }
+    let begin = std::time::Instant::now();
+    let mut harness = Harness {
+        exact,
+        tally: Tally::default(),
+    };
+    if let Some(what) = unlike(&ffi::fresh(), &Controller::default()) {
+        println!("DIFFERENT: fresh controller: {what}");
+        std::process::exit(1);
+    }
+    if plant == 0 {
+        let wrong = examples::wrong();
+        if !wrong.is_empty() {
+            println!(
+                "DIFFERENT from document 01's examples: {}",
+                wrong.join("\n  ")
+            );
+            std::process::exit(1);
+        }
+    }
+    let mut number = 0;
+    if plant == 0 && !exact {
+        for case in swept() {
+            harness.hold(case, "swept", seed);
+            number += 1;
+        }
+    }
+    let swept = number;
+    harness.tally = Tally::default();
+    while harness.tally.packets < count || harness.tally.reports < count / 10 {
+        let mut rng = Rng::new(seed, number);
+        if harness.tally.packets < count {
+            let stream = stream_case(&mut rng);
+            harness.tally.damaged += (stream.start != Controller::default()) as u64;
+            for part in &stream.parts {
+                harness.tally.long[0] += (part.len() == 1024 + 7) as u64;
+                harness.tally.long[1] += (part.len() == 1025 + 7) as u64;
+                harness.tally.long[2] += (part.len() == 65_535 + 7) as u64;
+            }
+            harness.hold(Case::Stream(Box::new(stream)), "stream", seed);
+            harness.hold(emit_case(&mut rng), "emit", seed);
+        }
+        if harness.tally.reports < count / 10 {
+            harness.hold(Case::Report(generate::report(&mut rng)), "report", seed);
+        }
+        number += 1;
+    }
+    println!("swept: {swept} calls");
+    summary(&harness.tally);
+    let missing = missing(&harness.tally);
+    if !missing.is_empty() {
+        println!("NOT TRIED: {}", missing.join(", "));
+        std::process::exit(1);
+    }
+    println!("no difference, {:.1} s", begin.elapsed().as_secs_f64());
+}

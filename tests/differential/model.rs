@@ -1,0 +1,828 @@
+//! Document 01 once more, in plain Rust: the receiver, the nine commands, the encoder, the standard
+//! list and the report checker. It was written from the paper and shares nothing with the crates.
+//! The differential test holds the library to it, and the benchmark measures the library against it.
+
+#![allow(dead_code)]
+
+/// The payload bytes of a transfer that are held at most.
+pub const HOLD: usize = 1024;
+/// The bytes of a packet before its payload.
+pub const HEADER: usize = 6;
+/// The shortest output of a receive call or of the encoder, and of the standard list.
+pub const OUTPUT: usize = 64;
+pub const LIST_OUTPUT: usize = 128;
+/// The length of the standard shipping list.
+pub const LIST: usize = 111;
+/// The longest report.
+pub const REPORT: usize = 60_000;
+
+const WRITE: u8 = 0x02;
+const READ: u8 = 0x04;
+const ERROR_RESPONSE: u8 = 0x01;
+const WRITE_RESPONSE: u8 = 0x03;
+const READ_RESPONSE: u8 = 0x05;
+
+const WHOLE: u8 = 0;
+const BEGINNING: u8 = 1;
+const INTERMEDIATE: u8 = 2;
+const LAST: u8 = 3;
+
+// ---------------------------------------------------------------------------------------------
+// Planted faults: only the differential test's own trial (--plant) compiles them in.
+
+#[cfg(plants)]
+pub static PLANT: std::sync::atomic::AtomicUsize = std::sync::atomic::AtomicUsize::new(0);
+
+#[cfg(plants)]
+#[inline]
+fn planted(fault: usize) -> bool {
+    PLANT.load(std::sync::atomic::Ordering::Relaxed) == fault
+}
+
+#[cfg(not(plants))]
+#[inline(always)]
+const fn planted(_fault: usize) -> bool {
+    false
+}
+
+/// What each planted fault is, from 1.
+pub const PLANTS: [&str; 20] = [
+    "the last of equal scores is the winner",
+    "a transfer stays open after an error packet",
+    "error codes descend",
+    "the checksum leaves the header out",
+    "only the first fault of the first group is reported",
+    "shipping settings are compared without the static colour",
+    "each trial starts from factory values",
+    "a mode other than 4 does not stop the sequence",
+    "red and green are stored before blue is refused",
+    "a payload of 1,024 bytes draws 04",
+    "held bytes are not counted for 04",
+    "flags 00 are let through while a transfer is open",
+    "inversion is allowed at every depth",
+    "run 1 outside mode 4 is not refused of a controller",
+    "the byte behind the response is written",
+    "a record's kind is looked at before its body length",
+    "empty payloads are refused in a transfer",
+    "refusal 19 is placed at kind 3",
+    "a half-received packet that has all its bytes is not refused",
+    "17 comes before 20",
+];
+
+// ---------------------------------------------------------------------------------------------
+// Commands and settings
+
+/// The commands, in table order.
+#[derive(Clone, Copy, PartialEq, Eq, Debug)]
+pub enum Command {
+    Mode,
+    Pattern,
+    Current,
+    Colour,
+    Display,
+    Input,
+    Video,
+    Sequence,
+    Run,
+}
+
+use Command::*;
+
+impl Command {
+    pub const ALL: [Command; 9] = [
+        Mode, Pattern, Current, Colour, Display, Input, Video, Sequence, Run,
+    ];
+
+    #[inline]
+    pub const fn from_bytes(cmd1: u8, cmd2: u8) -> Option<Command> {
+        Some(match (cmd1, cmd2) {
+            (0x01, 0x01) => Mode,
+            (0x01, 0x03) => Pattern,
+            (0x01, 0x04) => Current,
+            (0x01, 0x06) => Colour,
+            (0x01, 0x07) => Display,
+            (0x02, 0x00) => Input,
+            (0x02, 0x01) => Video,
+            (0x04, 0x00) => Sequence,
+            (0x04, 0x02) => Run,
+            _ => return None,
+        })
+    }
+
+    pub const fn bytes(self) -> [u8; 2] {
+        match self {
+            Mode => [0x01, 0x01],
+            Pattern => [0x01, 0x03],
+            Current => [0x01, 0x04],
+            Colour => [0x01, 0x06],
+            Display => [0x01, 0x07],
+            Input => [0x02, 0x00],
+            Video => [0x02, 0x01],
+            Sequence => [0x04, 0x00],
+            Run => [0x04, 0x02],
+        }
+    }
+
+    /// Where the command's data stand in `Settings`, and how many bytes they are.
+    #[inline]
+    pub const fn place(self) -> (usize, usize) {
+        match self {
+            Mode => (0, 1),
+            Pattern => (1, 1),
+            Current => (2, 6),
+            Colour => (8, 4),
+            Display => (12, 3),
+            Input => (15, 12),
+            Video => (27, 3),
+            Sequence => (30, 17),
+            Run => (47, 1),
+        }
+    }
+
+    #[inline]
+    pub const fn size(self) -> usize {
+        self.place().1
+    }
+
+    /// Whether data of the command's size are allowed. Run 1 is: mode 4 is another matter.
+    #[inline(always)]
+    pub fn allows(self, data: &[u8]) -> bool {
+        match (self, data) {
+            (Mode, &[mode]) => matches!(mode, 0 | 1 | 2 | 4),
+            (Pattern, &[pattern]) => pattern <= 13,
+            (Current, &[r0, r1, g0, g1, b0, b1]) => {
+                let drive = |low, high| u16::from_le_bytes([low, high]) <= 1024;
+                drive(r0, r1) && drive(g0, g1) && drive(b0, b1)
+            }
+            (Colour, &[_, _, _, last]) => last == 0,
+            (Display, &[long, short, rotate]) => (long | short | rotate) <= 1,
+            (Input, &[x0, x1, y0, y1, ..]) => {
+                listed(u16::from_le_bytes([x0, x1]), u16::from_le_bytes([y0, y1]))
+            }
+            (Video, &[rate, depth, led]) => {
+                matches!(rate, 15 | 30 | 40 | 50 | 60)
+                    && matches!(depth, 1..=8)
+                    && matches!(led, 1..=4)
+            }
+            (Sequence, &[depth, count, inversion, trigger, .., led]) => {
+                matches!(depth, 1..=8)
+                    && matches!(count, 1..=96)
+                    && inversion <= 2
+                    && (inversion == 0 || depth == 1 || planted(13))
+                    && trigger <= 6
+                    && (trigger != 6 || depth == 1)
+                    && led <= 2
+            }
+            (Run, &[run]) => run <= 1,
+            _ => false,
+        }
+    }
+}
+
+/// The listed pairs of the video input.
+#[inline]
+fn listed(x: u16, y: u16) -> bool {
+    match x {
+        240 => y == 320 || y == 427,
+        320 | 427 => y == 240,
+        360 | 430 => y == 640,
+        480 => matches!(y, 640 | 720 | 752 | 800 | 852 | 853 | 854),
+        608 => y == 684,
+        640 => matches!(y, 360 | 430 | 480),
+        720 => matches!(y, 240 | 288 | 480),
+        752 | 800 | 852 | 853 | 854 | 864 => y == 480,
+        _ => false,
+    }
+}
+
+/// The settings as their commands' data, one behind the other in table order.
+#[derive(Clone, Copy, PartialEq, Eq, Debug)]
+pub struct Settings(pub [u8; 48]);
+
+impl Settings {
+    pub const FACTORY: Settings = Settings([
+        0, // display mode
+        0, // test pattern
+        0x12, 0x01, 0x12, 0x01, 0x12, 0x01, // LED current
+        0, 0, 0, 0, // static colour
+        0, 1, 0, // display setting
+        0x60, 0x02, 0xAC, 0x02, 0, 0, 0, 0, 0x60, 0x02, 0xAC, 0x02, // video input
+        60, 8, 1, // video mode
+        1, 1, 0, 0, 0, 0, 0, 0, 0, 0, 0, 0, 0, 0, 0, 0, 0, // pattern sequence
+        0, // sequence run
+    ]);
+
+    #[inline]
+    pub fn get(&self, command: Command) -> &[u8] {
+        let (at, size) = command.place();
+        &self.0[at..at + size]
+    }
+
+    #[inline]
+    pub fn set(&mut self, command: Command, data: &[u8]) {
+        let (at, size) = command.place();
+        self.0[at..at + size].copy_from_slice(data);
+    }
+
+    #[inline]
+    fn mode(&self) -> u8 {
+        self.0[0]
+    }
+
+    #[inline]
+    fn run(&self) -> u8 {
+        self.0[47]
+    }
+
+    /// Every setting allowed, and run 1 only in mode 4.
+    #[inline]
+    pub fn in_rule(&self) -> bool {
+        // Written out, so that each command's check is compiled for its place alone.
+        let allowed = |command: Command| command.allows(self.get(command));
+        allowed(Mode)
+            && allowed(Pattern)
+            && allowed(Current)
+            && allowed(Colour)
+            && allowed(Display)
+            && allowed(Input)
+            && allowed(Video)
+            && allowed(Sequence)
+            && allowed(Run)
+            && (self.run() == 0 || self.mode() == 4 || planted(14))
+    }
+}
+
+// ---------------------------------------------------------------------------------------------
+// Judging
+
+/// The codes of an error packet: bit n for code n.
+type Faults = u16;
+
+const INVALID_COMMAND: Faults = 1 << 0x02;
+const INVALID_VALUE: Faults = 1 << 0x03;
+const OUT_OF_MEMORY: Faults = 1 << 0x04;
+const NOT_INITIALIZED: Faults = 1 << 0x07;
+const CHECKSUM: Faults = 1 << 0x09;
+const SIZE: Faults = 1 << 0x0A;
+const CONTINUATION: Faults = 1 << 0x0B;
+
+/// A transfer: its mark, its command and how many bytes of it are held. Document 01 leaves to the
+/// layout what memory may hold beside it, so this is the lent controller's: any mark but 0 means open
+/// (docs/DECISIONS.md), an accepted packet of a transfer leaves mark 1, and a write or an error packet
+/// that leaves none open leaves zeros.
+#[derive(Clone, Copy, PartialEq, Eq, Debug)]
+pub struct Transfer {
+    pub mark: u8,
+    pub command: [u8; 2],
+    pub held: usize,
+}
+
+impl Transfer {
+    pub const NONE: Transfer = Transfer {
+        mark: 0,
+        command: [0, 0],
+        held: 0,
+    };
+
+    #[inline]
+    fn open(&self) -> bool {
+        self.mark != 0
+    }
+
+    /// The held bytes: none without an open transfer.
+    #[inline]
+    fn held(&self) -> usize {
+        if self.open() {
+            self.held
+        } else {
+            0
+        }
+    }
+}
+
+/// What a packet draws.
+enum Answer {
+    Error(Faults),
+    Written,
+    Data(Command),
+}
+
+/// What a packet is judged on.
+#[derive(Clone, Copy, PartialEq, Eq, Debug)]
+pub struct State {
+    pub settings: Settings,
+    pub transfer: Transfer,
+}
+
+impl State {
+    #[inline]
+    fn first_group(&self, header: &[u8; HEADER], sum_right: bool) -> Faults {
+        let &[kind, cmd1, cmd2, flags, low, high] = header;
+        let length = u16::from_le_bytes([low, high]) as usize;
+        let command = Command::from_bytes(cmd1, cmd2);
+        let open = self.transfer.open();
+        let mut faults = 0;
+        if !sum_right {
+            faults |= CHECKSUM;
+        }
+        let known = match kind {
+            WRITE => command.is_some(),
+            READ => command.is_some() && command != Some(Colour),
+            _ => false,
+        };
+        if !known {
+            faults |= INVALID_COMMAND;
+        }
+        let continues = flags == INTERMEDIATE || flags == LAST;
+        let counted = if planted(11) { 0 } else { self.transfer.held };
+        if length > HOLD - planted(10) as usize || (continues && open && counted + length > HOLD) {
+            faults |= OUT_OF_MEMORY;
+        }
+        let in_place = match flags {
+            WHOLE => !open || planted(12),
+            BEGINNING => !open,
+            INTERMEDIATE | LAST => open && self.transfer.command == [cmd1, cmd2],
+            _ => false,
+        };
+        if !in_place
+            || (flags != WHOLE && kind != WRITE)
+            || (planted(17) && flags != WHOLE && length == 0)
+        {
+            faults |= CONTINUATION;
+        }
+        if planted(5) {
+            faults &= faults.wrapping_neg();
+        }
+        faults
+    }
+
+    /// Size, values and mode of a write that is to be carried out; stored when all are right.
+    #[inline]
+    fn store(&mut self, command: Command, data: &[u8]) -> Faults {
+        if data.len() != command.size() {
+            return SIZE;
+        }
+        if !command.allows(data) {
+            if planted(9) && command == Current {
+                self.settings.0[2..6].copy_from_slice(&data[..4]);
+            }
+            return INVALID_VALUE;
+        }
+        if command == Run && data[0] == 1 && self.settings.mode() != 4 {
+            return NOT_INITIALIZED;
+        }
+        self.settings.set(command, data);
+        if command == Mode && data[0] != 4 && !planted(8) {
+            self.settings.set(Run, &[0]);
+        }
+        0
+    }
+
+    /// Judges a complete packet and carries it out. `joined` is the transfer's held data and this
+    /// payload behind them; it is not looked at when they are over 1,024 bytes.
+    #[inline]
+    fn judge(&mut self, header: &[u8; HEADER], sum_right: bool, joined: &[u8]) -> Answer {
+        let mut faults = self.first_group(header, sum_right);
+        let &[kind, cmd1, cmd2, flags, low, high] = header;
+        let length = u16::from_le_bytes([low, high]) as usize;
+        if let (0, Some(command)) = (faults, Command::from_bytes(cmd1, cmd2)) {
+            match flags {
+                WHOLE if kind == READ => {
+                    if length == 0 {
+                        return Answer::Data(command);
+                    }
+                    faults = SIZE;
+                }
+                BEGINNING => {
+                    self.transfer = Transfer {
+                        mark: 1,
+                        command: [cmd1, cmd2],
+                        held: length,
+                    };
+                }
+                INTERMEDIATE => {
+                    self.transfer.mark = 1;
+                    self.transfer.held += length;
+                }
+                _ => {
+                    faults = self.store(command, joined);
+                    self.transfer = Transfer::NONE;
+                }
+            }
+        }
+        if faults == 0 {
+            return Answer::Written;
+        }
+        if !planted(2) {
+            self.transfer = Transfer::NONE;
+        }
+        Answer::Error(faults)
+    }
+}
+
+// ---------------------------------------------------------------------------------------------
+// The receiver
+
+#[inline]
+fn sum(bytes: &[u8]) -> u8 {
+    bytes.iter().fold(0, |sum, &byte| sum.wrapping_add(byte))
+}
+
+#[derive(Clone, Copy, PartialEq, Eq, Debug)]
+pub enum Refusal {
+    Output = 1,
+    Value = 2,
+    State = 3,
+}
+
+#[derive(Clone, Copy, PartialEq, Eq, Debug)]
+pub enum Progress {
+    Waiting { taken: usize },
+    Answered { taken: usize, length: usize },
+}
+
+#[derive(Clone, Copy, PartialEq, Eq, Debug)]
+pub struct Controller {
+    pub state: State,
+    /// The header of the packet that is coming in, the sum of its bytes, and how many have come.
+    pub header: [u8; HEADER],
+    pub sum: u8,
+    pub received: usize,
+    /// The transfer's held data and behind them the payload that is coming in.
+    pub hold: [u8; HOLD],
+}
+
+impl Default for Controller {
+    fn default() -> Self {
+        Controller {
+            state: State {
+                settings: Settings::FACTORY,
+                transfer: Transfer::NONE,
+            },
+            header: [0; HEADER],
+            sum: 0,
+            received: 0,
+            hold: [0; HOLD],
+        }
+    }
+}
+
+impl Controller {
+    #[inline]
+    fn length(&self) -> usize {
+        u16::from_le_bytes([self.header[4], self.header[5]]) as usize
+    }
+
+    #[inline]
+    pub fn in_rule(&self) -> bool {
+        let transfer = &self.state.transfer;
+        let [cmd1, cmd2] = transfer.command;
+        let complete = self.received >= HEADER + 1 + self.length() + planted(19) as usize;
+        transfer.held <= HOLD
+            && (!transfer.open() || Command::from_bytes(cmd1, cmd2).is_some())
+            && !complete
+            && self.state.settings.in_rule()
+    }
+
+    /// Takes bytes until the input ends or one packet is complete.
+    pub fn receive(&mut self, input: &[u8], out: &mut [u8]) -> Result<Progress, Refusal> {
+        let Some(out) = out.first_chunk_mut::<OUTPUT>() else {
+            return Err(Refusal::Output);
+        };
+        if !self.in_rule() {
+            return Err(Refusal::State);
+        }
+        let mut rest = input;
+        if self.received < HEADER {
+            rest = self.keep_header(rest);
+        }
+        if self.received >= HEADER {
+            let due = (HEADER + self.length()).saturating_sub(self.received);
+            let (payload, tail) = rest.split_at(rest.len().min(due));
+            self.keep(payload);
+            rest = tail;
+            if let Some((&last, tail)) = rest.split_first() {
+                let length = self.answer(last, out);
+                return Ok(Progress::Answered {
+                    taken: input.len() - tail.len(),
+                    length,
+                });
+            }
+        }
+        Ok(Progress::Waiting { taken: input.len() })
+    }
+
+    /// Takes header bytes, and gives what comes after them.
+    #[inline]
+    fn keep_header<'a>(&mut self, input: &'a [u8]) -> &'a [u8] {
+        let (head, tail) = input.split_at(input.len().min(HEADER - self.received));
+        if let Ok(whole) = <&[u8; HEADER]>::try_from(head) {
+            self.header = *whole;
+        } else {
+            for (slot, &byte) in self.header[self.received..].iter_mut().zip(head) {
+                *slot = byte;
+            }
+        }
+        if !planted(4) {
+            self.sum = head.iter().fold(self.sum, |sum, &b| sum.wrapping_add(b));
+        }
+        self.received += head.len();
+        tail
+    }
+
+    /// Takes a piece of payload.
+    #[inline]
+    fn keep(&mut self, payload: &[u8]) {
+        if payload.is_empty() {
+            return;
+        }
+        let at = self.state.transfer.held() + (self.received - HEADER);
+        if let Some(room) = self.hold.get_mut(at..) {
+            let kept = payload.len().min(room.len());
+            room[..kept].copy_from_slice(&payload[..kept]);
+        }
+        self.sum = self.sum.wrapping_add(sum(payload));
+        self.received += payload.len();
+    }
+
+    /// Answers the packet that its last byte completes.
+    #[inline]
+    fn answer(&mut self, last: u8, out: &mut [u8; OUTPUT]) -> usize {
+        let joined = (self.state.transfer.held() + self.length()).min(HOLD);
+        let answer = self
+            .state
+            .judge(&self.header, self.sum == last, &self.hold[..joined]);
+        self.received = 0;
+        self.sum = 0;
+        let command = [self.header[1], self.header[2]];
+        let length = match answer {
+            Answer::Written => packet(out, WRITE_RESPONSE, command, &[]),
+            Answer::Data(which) => {
+                packet(out, READ_RESPONSE, command, self.state.settings.get(which))
+            }
+            Answer::Error(faults) => error_packet(out, command, faults),
+        };
+        if planted(15) {
+            out[length] = !out[length];
+        }
+        length
+    }
+}
+
+/// Writes one whole packet and gives its length.
+#[inline]
+fn packet(out: &mut [u8], kind: u8, command: [u8; 2], data: &[u8]) -> usize {
+    let size = data.len();
+    let out = &mut out[..size + 7];
+    out[..HEADER].copy_from_slice(&[kind, command[0], command[1], WHOLE, size as u8, 0]);
+    out[HEADER..HEADER + size].copy_from_slice(data);
+    out[HEADER + size] = sum(&out[..HEADER + size]);
+    size + 7
+}
+
+fn error_packet(out: &mut [u8], command: [u8; 2], faults: Faults) -> usize {
+    let mut codes = [0; 16];
+    let mut count = 0;
+    let mut left = faults;
+    while left != 0 {
+        codes[count] = left.trailing_zeros() as u8;
+        count += 1;
+        left &= left - 1;
+    }
+    if planted(3) {
+        codes[..count].reverse();
+    }
+    packet(out, ERROR_RESPONSE, command, &codes[..count])
+}
+
+// ---------------------------------------------------------------------------------------------
+// The encoder and the standard list
+
+/// The whole-packet write of `data` for a command.
+pub fn encode(
+    command: Option<Command>,
+    settings: &Settings,
+    out: &mut [u8],
+) -> Result<usize, Refusal> {
+    if out.len() < OUTPUT {
+        return Err(Refusal::Output);
+    }
+    match command {
+        Some(command) if command.allows(settings.get(command)) => {
+            Ok(packet(out, WRITE, command.bytes(), settings.get(command)))
+        }
+        _ => Err(Refusal::Value),
+    }
+}
+
+/// One whole-packet write for each command, in table order.
+pub fn standard_list(settings: &Settings, out: &mut [u8]) -> Result<usize, Refusal> {
+    if out.len() < LIST_OUTPUT {
+        return Err(Refusal::Output);
+    }
+    if !settings.in_rule() {
+        return Err(Refusal::State);
+    }
+    Ok(Command::ALL.iter().fold(0, |at, &command| {
+        at + packet(
+            &mut out[at..],
+            WRITE,
+            command.bytes(),
+            settings.get(command),
+        )
+    }))
+}
+
+// ---------------------------------------------------------------------------------------------
+// The report checker
+
+#[derive(Clone, Copy, PartialEq, Eq, Debug)]
+pub struct Accepted {
+    pub trial: usize,
+    pub score: u32,
+    pub settings: Settings,
+}
+
+#[derive(Clone, Copy, PartialEq, Eq, Debug)]
+pub struct Rejected {
+    pub number: u8,
+    pub place: usize,
+}
+
+/// How a run of packets ended.
+pub struct Played {
+    pub settings: Settings,
+    /// Every packet drew a write response.
+    pub acknowledged: bool,
+    /// No packet and no transfer is left half sent.
+    pub finished: bool,
+}
+
+/// Plays packets from given settings.
+pub fn play(settings: Settings, mut bytes: &[u8]) -> Played {
+    let mut state = State {
+        settings,
+        transfer: Transfer::NONE,
+    };
+    let mut hold = [0u8; HOLD];
+    let mut acknowledged = true;
+    while let Some((header, after)) = bytes.split_first_chunk::<HEADER>() {
+        let length = u16::from_le_bytes([header[4], header[5]]) as usize;
+        let Some((&last, rest)) = after.get(length..).and_then(<[u8]>::split_first) else {
+            break;
+        };
+        let payload = &after[..length];
+        bytes = rest;
+        let head = if planted(4) { 0 } else { sum(header) };
+        let right = head.wrapping_add(sum(payload)) == last;
+        let held = state.transfer.held();
+        let joined = if header[3] == WHOLE {
+            payload
+        } else if held + length <= HOLD {
+            hold[held..held + length].copy_from_slice(payload);
+            &hold[..held + length]
+        } else {
+            &[]
+        };
+        acknowledged &= matches!(state.judge(header, right, joined), Answer::Written);
+    }
+    let finished = bytes.is_empty() && !state.transfer.open();
+    Played {
+        settings: state.settings,
+        acknowledged,
+        finished,
+    }
+}
+
+/// The records of a report that are not read yet.
+struct Records<'a> {
+    report: &'a [u8],
+    at: usize,
+}
+
+impl<'a> Records<'a> {
+    /// The next record's place and body: refusals 11 and 12, and 13 by `size`.
+    #[inline]
+    fn next(
+        &mut self,
+        kind: u16,
+        size: impl Fn(usize) -> bool,
+    ) -> Result<(usize, &'a [u8]), Rejected> {
+        let place = self.at;
+        let refuse = |number| Err(Rejected { number, place });
+        let Some((&[l0, l1, k0, k1], rest)) = self.report[place..].split_first_chunk::<4>() else {
+            return refuse(11);
+        };
+        if planted(16) && u16::from_le_bytes([k0, k1]) != kind {
+            return refuse(12);
+        }
+        let Some(body) = rest.get(..u16::from_le_bytes([l0, l1]) as usize) else {
+            return refuse(11);
+        };
+        if u16::from_le_bytes([k0, k1]) != kind {
+            return refuse(12);
+        }
+        if !size(body.len()) {
+            return refuse(13);
+        }
+        self.at = place + 4 + body.len();
+        Ok((place, body))
+    }
+}
+
+fn u16_at(bytes: &[u8], at: usize) -> u16 {
+    u16::from_le_bytes([bytes[at], bytes[at + 1]])
+}
+
+pub fn check_report(report: &[u8]) -> Result<Accepted, Rejected> {
+    if report.len() > REPORT {
+        return Err(Rejected {
+            number: 10,
+            place: 0,
+        });
+    }
+    let mut records = Records { report, at: 0 };
+    let (_, head) = records.next(1, |size| size == 4)?;
+    if u16_at(head, 0) != 1 {
+        return Err(Rejected {
+            number: 14,
+            place: 0,
+        });
+    }
+    let count = u16_at(head, 2) as usize;
+    if count == 0 {
+        return Err(Rejected {
+            number: 15,
+            place: 0,
+        });
+    }
+    let first_trial = records.at;
+    let mut best = (u32::MAX, 0);
+    for trial in 0..count {
+        let (_, body) = records.next(2, |size| size >= 4)?;
+        let score = u32::from_le_bytes([body[0], body[1], body[2], body[3]]);
+        if score < best.0 || (planted(1) && score == best.0) {
+            best = (score, trial);
+        }
+    }
+    let (winner_place, body) = records.next(3, |size| size == 2)?;
+    let winner = u16_at(body, 0) as usize;
+    if winner >= count {
+        return Err(Rejected {
+            number: 16,
+            place: winner_place,
+        });
+    }
+    let (place, shipping) = records.next(4, |_| true)?;
+    if planted(20) && winner != best.1 {
+        return Err(Rejected {
+            number: 17,
+            place: winner_place,
+        });
+    }
+    if records.at != report.len() {
+        return Err(Rejected {
+            number: 20,
+            place: records.at,
+        });
+    }
+    let (score, first) = best;
+    if winner != first {
+        return Err(Rejected {
+            number: 17,
+            place: winner_place,
+        });
+    }
+    let shipped = play(Settings::FACTORY, shipping);
+    if !shipped.acknowledged || !shipped.finished {
+        return Err(Rejected { number: 18, place });
+    }
+    // The trials after the winner have no say in its end settings.
+    let mut records = Records {
+        report,
+        at: first_trial,
+    };
+    let mut settings = Settings::FACTORY;
+    for _ in 0..=winner {
+        let (_, body) = records.next(2, |_| true)?;
+        let from = if planted(7) {
+            Settings::FACTORY
+        } else {
+            settings
+        };
+        settings = play(from, &body[4..]).settings;
+    }
+    let mut shipped = shipped.settings;
+    if planted(6) {
+        shipped.set(Colour, settings.get(Colour));
+    }
+    if shipped != settings {
+        let place = if planted(18) { winner_place } else { place };
+        return Err(Rejected { number: 19, place });
+    }
+    Ok(Accepted {
+        trial: winner,
+        score,
+        settings,
+    })
+}
