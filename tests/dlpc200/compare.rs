@@ -1,6 +1,7 @@
 // Compares libdlpc200_port.a with the model: every answer, every byte of the output and every field
 // of the device, on the document's packets and on seeded streams, cut anywhere, and devices of any
-// field values. Fails if a fault, a refusal or a command was never met.
+// field values. Fails if a fault, a refusal or a command was never met, or if a fault that is planted
+// in the model is not found.
 #[path = "../../include/dlpc200.rs"]
 mod dlpc200;
 mod model;
@@ -188,62 +189,89 @@ fn worked(tally: &mut Tally) {
     }
 }
 
-fn main() {
-    let rounds: u64 = std::env::args().nth(1).map_or(20_000, |n| n.parse().expect("a number of rounds"));
-    let mut tally = Tally::default();
-    worked(&mut tally);
+// Every pair of status bytes.
+fn counts() {
     for d0 in 0..=255u8 {
         for d1 in 0..=255u8 {
             let ones = (0..8).filter(|i| *i != 6 && d0 >> i & 1 == 1).count() + (0..8).filter(|i| d1 >> i & 1 == 1).count();
             assert_eq!(faults(d0, d1), ones as u32);
         }
     }
-    for seed in 1..=rounds {
-        let mut r = Random(seed.wrapping_mul(0x9E3779B97F4A7C15));
-        // a stream of packets, cut anywhere
-        let mut m = Model { states: states(&mut r), first: [0; 8], count: 0, sum: 0 };
-        let mut stream = vec![];
-        for _ in 0..r.below(6) {
-            stream.extend(packet(&mut r));
-        }
-        if r.below(3) == 0 {
-            let p = packet(&mut r);
-            stream.extend(&p[..r.below(p.len())]);
-        }
-        let mut rest = &stream[..];
-        while !rest.is_empty() {
-            let n = if r.below(3) == 0 { rest.len() } else { (1 + r.below(12)).min(rest.len()) };
-            if r.below(10) == 0 {
-                let short = r.below(64);
-                call(&mut m, &rest[..n], short, r.byte(), &mut tally);
-            }
-            if !m.in_rule() {
-                call(&mut m, &rest[..n], 64 + r.below(10), r.byte(), &mut tally);
-                break;
-            }
-            feed(&mut m, &rest[..n], r.byte(), &mut tally);
-            rest = &rest[n..];
-        }
-        // a device of any field values, and some bytes
-        let length = r.one_of(&[0usize, 1, 2, 3, 504, 505, 65535]);
-        let mut first = [0; 8];
-        first.iter_mut().for_each(|b| *b = r.byte());
-        first[4] = length as u8;
-        first[5] = (length >> 8) as u8;
-        let count = match r.below(6) {
-            0 => r.below(9),
-            1 => (length + 6).saturating_sub(r.below(4)),
-            2 => length + 6,
-            3 => length + 7 + r.below(3),
-            4 => usize::MAX - r.below(2),
-            _ => r.below(70000),
-        };
-        let mut m = Model { states: states(&mut r), first, count, sum: r.byte() };
-        let input: Vec<u8> = (0..r.below(40)).map(|_| r.byte()).collect();
-        let room = if r.below(5) == 0 { r.below(64) } else { 64 + r.below(8) };
-        call(&mut m, &input, room, r.byte(), &mut tally);
+}
+
+// A stream of packets, cut anywhere.
+fn stream(r: &mut Random, tally: &mut Tally) {
+    let mut m = Model { states: states(r), first: [0; 8], count: 0, sum: 0 };
+    let mut stream = vec![];
+    for _ in 0..r.below(6) {
+        stream.extend(packet(r));
     }
+    if r.below(3) == 0 {
+        let p = packet(r);
+        stream.extend(&p[..r.below(p.len())]);
+    }
+    let mut rest = &stream[..];
+    while !rest.is_empty() {
+        let n = if r.below(3) == 0 { rest.len() } else { (1 + r.below(12)).min(rest.len()) };
+        if r.below(10) == 0 {
+            let short = r.below(64);
+            call(&mut m, &rest[..n], short, r.byte(), tally);
+        }
+        if !m.in_rule() {
+            call(&mut m, &rest[..n], 64 + r.below(10), r.byte(), tally);
+            break;
+        }
+        feed(&mut m, &rest[..n], r.byte(), tally);
+        rest = &rest[n..];
+    }
+}
+
+// A device of any field values, and some bytes.
+fn damaged(r: &mut Random, tally: &mut Tally) {
+    let length = r.one_of(&[0usize, 1, 2, 3, 504, 505, 65535]);
+    let mut first = [0; 8];
+    first.iter_mut().for_each(|b| *b = r.byte());
+    first[4] = length as u8;
+    first[5] = (length >> 8) as u8;
+    let count = match r.below(6) {
+        0 => r.below(9),
+        1 => (length + 6).saturating_sub(r.below(4)),
+        2 => length + 6,
+        3 => length + 7 + r.below(3),
+        4 => usize::MAX - r.below(2),
+        _ => r.below(70000),
+    };
+    let mut m = Model { states: states(r), first, count, sum: r.byte() };
+    let input: Vec<u8> = (0..r.below(40)).map(|_| r.byte()).collect();
+    let room = if r.below(5) == 0 { r.below(64) } else { 64 + r.below(8) };
+    call(&mut m, &input, room, r.byte(), tally);
+}
+
+fn rounds(n: u64) -> Tally {
+    let mut tally = Tally::default();
+    for seed in 1..=n {
+        let mut r = Random(seed.wrapping_mul(0x9E3779B97F4A7C15));
+        stream(&mut r, &mut tally);
+        damaged(&mut r, &mut tally);
+    }
+    tally
+}
+
+fn main() {
+    let n: u64 = std::env::args().nth(1).map_or(20_000, |n| n.parse().expect("a number of rounds"));
+    worked(&mut Tally::default());
+    counts();
+    let tally = rounds(n);
     let never: Vec<_> = tally.0.iter().filter(|(_, n)| **n == 0).map(|(name, _)| *name).collect();
     assert!(never.is_empty(), "never met: {never:?}");
-    println!("dlpc200: {rounds} rounds alike; {}", tally.0.iter().map(|(name, n)| format!("{name} {n}")).collect::<Vec<_>>().join(", "));
+    std::panic::set_hook(Box::new(|_| {}));
+    for fault in 1..=model::PLANTS {
+        model::PLANT.store(fault, std::sync::atomic::Ordering::Relaxed);
+        if std::panic::catch_unwind(|| rounds(n)).is_ok() {
+            println!("dlpc200: planted fault {fault} was not found");
+            std::process::exit(1);
+        }
+    }
+    let met: Vec<_> = tally.0.iter().map(|(name, n)| format!("{name} {n}")).collect();
+    println!("dlpc200: {n} rounds alike; {}; {} planted faults found", met.join(", "), model::PLANTS);
 }

@@ -1,5 +1,15 @@
 // The DLPC200's SPI port, written from source document 000 and request 1 alone. It goes byte by byte
-// and shares nothing with the Rattle crates.
+// and shares nothing with the Rattle crates. A planted fault makes it wrong on purpose, so that the
+// comparison can be seen to find it.
+use std::sync::atomic::{AtomicU32, Ordering};
+
+// The number of the planted fault, 0 for none.
+pub static PLANT: AtomicU32 = AtomicU32::new(0);
+pub const PLANTS: u32 = 12;
+
+fn plant(n: u32) -> bool {
+    PLANT.load(Ordering::Relaxed) == n
+}
 
 #[derive(Clone, Copy, PartialEq, Eq, Debug)]
 pub struct Model {
@@ -59,12 +69,17 @@ impl Model {
     }
 
     pub fn in_rule(&self) -> bool {
-        let most = [1, 1, 1, 7, 1];
-        (0..5).all(|i| self.states[i] <= most[i]) && self.count <= 6 + self.length()
+        // plant 1: 8 in the range of 0029; plant 2: a whole half-received packet
+        let most = [1, 1, 1, if plant(1) { 8 } else { 7 }, 1];
+        (0..5).all(|i| self.states[i] <= most[i]) && self.count <= 6 + plant(2) as usize + self.length()
     }
 
     // One call. The output is written as the real one's is.
     pub fn receive(&mut self, input: &[u8], out: &mut [u8]) -> (Answer, Option<Judged>) {
+        // plant 3: 3 is tested before 1
+        if plant(3) && !self.in_rule() {
+            return (Answer::Refused(3), None);
+        }
         if out.len() < 64 {
             return (Answer::Refused(1), None);
         }
@@ -83,7 +98,8 @@ impl Model {
             if self.count < 8 {
                 self.first[self.count] = byte;
             }
-            if self.count >= 4 {
+            // plant 4: the checksum counts CMD4
+            if self.count >= 4 - plant(4) as usize {
                 self.sum = ((self.sum as u32 + byte as u32) & 0xFF) as u8;
             }
             self.count += 1;
@@ -100,11 +116,15 @@ impl Model {
         judged.checksum = checksum != self.sum;
         judged.cmd1 = cmd1 != 0x02 && cmd1 != 0x04;
         judged.cmd2 = self.first[1] != 0xAA;
-        judged.cmd4 = self.first[3] != 0x00;
-        judged.size = length < 2 || length > 504;
+        // plant 5: CMD3 is judged; plants 6 and 7: the limits of the size
+        judged.cmd4 = self.first[3] != 0x00 || plant(5) && self.first[2] != 0x00;
+        judged.size = length < 2 - plant(6) as usize || length > 504 + plant(7) as usize;
         if let Some((wanted, _)) = known {
             judged.cmd1 |= cmd1 != wanted;
             judged.size |= length != 2;
+        } else {
+            // plant 8: an unknown command sets more than bit 6
+            judged.size |= plant(8);
         }
         judged
     }
@@ -112,20 +132,23 @@ impl Model {
     fn carry_out(&mut self, judged: &Judged) -> Vec<u8> {
         let mut data = vec![0u8, 0u8];
         if judged.failed() {
-            data[0] |= 1 << 6;
+            // plant 9: bit 6 is missing; plant 10: CMD4 has the bit of CMD3
+            data[0] |= (!plant(9) as u8) << 6;
             data[0] |= (judged.checksum as u8) << 0;
             data[0] |= (judged.cmd1 as u8) << 1;
             data[0] |= (judged.cmd2 as u8) << 2;
-            data[0] |= (judged.cmd4 as u8) << 4;
+            data[0] |= (judged.cmd4 as u8) << (4 - plant(10) as u8);
             data[1] |= (judged.size as u8) << 3;
         } else {
             match judged.id {
-                0x0005 => self.states[0] = 1,
-                0x0006 => self.states[0] = 0,
+                // plant 11: park and unpark are exchanged
+                0x0005 => self.states[0] = !plant(11) as u8,
+                0x0006 => self.states[0] = plant(11) as u8,
                 id => data.push(self.states[command(id).unwrap().1.unwrap()]),
             }
         }
-        let kind = if self.first[0] == 0x04 { 0x05 } else { 0x03 };
+        // plant 12: a read that failed draws a write response
+        let kind = if self.first[0] == 0x04 && !(plant(12) && judged.failed()) { 0x05 } else { 0x03 };
         let mut packet = vec![kind, 0xAA, 0x00, 0x00, data.len() as u8, 0x00];
         packet.extend(&data);
         let sum: u32 = packet[4..].iter().map(|x| *x as u32).sum();
