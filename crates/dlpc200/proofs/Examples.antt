@@ -6,7 +6,7 @@ use Rattle.packet.specs.Stream.{size, hasPacket, packetsIn, packets}
 use Rattle.packet.specs.Calls.{joined}
 use lib.Count.{onesIn, ones}
 use Rattle.dlpc200_packet.specs.Packet.{checksum, rightSum, packetOf}
-use Rattle.dlpc200_rules.specs.Table.{find, commandOf}
+use Rattle.dlpc200_table.specs.Table.{find, commandOf}
 use Rattle.dlpc200_status.specs.Status.{anyFault, data0, data1, faultBits}
 use Rattle.dlpc200_rules.specs.Judging.{commandIn, wrongCmd1, wrongSize, faultsOf, judgedBy, judge, response}
 use Rattle.dlpc200.specs.Playing.{judged, answerTo, next, responses, after}

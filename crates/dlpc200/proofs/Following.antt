@@ -23,7 +23,7 @@ use Rattle.dlpc200_packet.specs.declared.receiver.Receiver.{Receiver}
 use Rattle.dlpc200_packet.specs.declared.receiver.Received.{Received}
 use Rattle.dlpc200_packet.proofs.Receiving.{Made, Between, afterPacket, one, first-of, too-few}
 use Rattle.dlpc200_rules.specs.Judging.{commandIn, arrivedBy, arrived, judge, statesAfter, response}
-use Rattle.dlpc200_rules.specs.declared.states.States.{States}
+use Rattle.dlpc200_table.specs.declared.states.States.{States}
 use Rattle.dlpc200.specs.Playing.{judged, answerTo, next, responses, after}
 use Rattle.dlpc200.specs.Calls.{judgedIn, responseIn, After, waiting, answered, ended, receiveCall}
 use Rattle.dlpc200.specs.declared.device.Device.{Device}

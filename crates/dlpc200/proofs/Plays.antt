@@ -5,14 +5,14 @@ use mathlib.Core.Bool.{true}
 use mathlib.Core.List.{List, [], _∷_}
 use lib.ListN.{getD}
 use Rattle.dlpc200_packet.specs.Packet.{cmd1Of, readResp, packetOf}
-use Rattle.dlpc200_rules.specs.Table.{parkAfter, inRange}
+use Rattle.dlpc200_table.specs.Table.{parkAfter, inRange}
 use Rattle.dlpc200_status.specs.Status.{faultBits, faultsHeld, data0, data1}
 use Rattle.dlpc200_rules.specs.Judging.{arrived, faultsOf, statesAfter, responseType, response}
-use Rattle.dlpc200_rules.specs.declared.command.Command.the-variants.{ParkDmd, UnparkDmd, GetDmdSoftwareParkState}
+use Rattle.dlpc200_table.specs.declared.command.Command.the-variants.{ParkDmd, UnparkDmd, GetDmdSoftwareParkState}
 use Rattle.dlpc200_status.specs.declared.faults.Faults.{Faults}
 use Rattle.dlpc200_rules.specs.declared.judging.Judgement.{Judgement}
 use Rattle.dlpc200_rules.specs.declared.judging.Judgement.the-variants.{Failed, Done}
-use Rattle.dlpc200_rules.specs.declared.states.States.{States}
+use Rattle.dlpc200_table.specs.declared.states.States.{States}
 use Rattle.dlpc200_rules.proofs.Judgements as judgements
 use Rattle.dlpc200.specs.Playing.{judged, answerTo, next, after}
 

@@ -14,14 +14,14 @@ use Rattle.packet.proofs.Lists.{sets-front}
 use Rattle.packet.proofs.Framing.{IsPacket}
 use Rattle.writer.specs.Writing.{written}
 use Rattle.dlpc200_packet.specs.Packet.{cmd1Of, checksum, rightSum, front, packetOf}
-use Rattle.dlpc200_rules.specs.Table.{shownOf, dataOf}
+use Rattle.dlpc200_table.specs.Table.{shownOf, dataOf}
 use Rattle.dlpc200_status.specs.Status.{data0, data1}
 use Rattle.dlpc200_rules.specs.Judging.{responseType, responseData, response}
 use Rattle.dlpc200_rules.specs.declared.judging.Judgement.{Judgement}
 use Rattle.dlpc200_rules.specs.declared.judging.Judgement.the-variants.{Failed, Done}
-use Rattle.dlpc200_rules.specs.declared.states.States.{States}
-use Rattle.dlpc200_rules.specs.declared.states.Shown.{Shown}
-use Rattle.dlpc200_rules.specs.declared.states.Shown.the-variants.{State, Nothing}
+use Rattle.dlpc200_table.specs.declared.states.States.{States}
+use Rattle.dlpc200_table.specs.declared.states.Shown.{Shown}
+use Rattle.dlpc200_table.specs.declared.states.Shown.the-variants.{State, Nothing}
 use Rattle.dlpc200.specs.Playing.{judged, answerTo}
 
 -- bytes stored at the start of a buffer, where they are this packet

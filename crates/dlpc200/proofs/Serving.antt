@@ -18,8 +18,8 @@ use Rattle.packet.proofs.Calls.{Streaming, shifted, in-pieces}
 use Rattle.dlpc200_packet.specs.Receiving.{framedBy, with, taking, receiving}
 use Rattle.dlpc200_packet.specs.declared.receiver.Received.{Received}
 use Rattle.dlpc200_packet.proofs.Receiving.{Made, made-with, made-completed, received-none, after, cut, behind, waits, completes, no-bytes}
-use Rattle.dlpc200_rules.specs.Table.{inRange}
-use Rattle.dlpc200_rules.specs.declared.states.States.{States}
+use Rattle.dlpc200_table.specs.Table.{inRange}
+use Rattle.dlpc200_table.specs.declared.states.States.{States}
 use Rattle.dlpc200_rules.proofs.Judgements.{in-range-kept}
 use Rattle.dlpc200.specs.Calls.{
   Outcome,

@@ -9,10 +9,10 @@ use Rattle.writer.specs.Writing.{written}
 use Rattle.dlpc200_packet.specs.Receiving.{fresh, receiving}
 use Rattle.dlpc200_packet.specs.declared.receiver.Receiver.{Receiver}
 use Rattle.dlpc200_packet.specs.declared.receiver.Received.{Received}
-use Rattle.dlpc200_rules.specs.Table.{inRange}
+use Rattle.dlpc200_table.specs.Table.{inRange}
 use Rattle.dlpc200_rules.specs.Judging.{Arrived, arrivedBy, judge, statesAfter, response}
 use Rattle.dlpc200_rules.specs.declared.judging.Judgement.{Judgement}
-use Rattle.dlpc200_rules.specs.declared.states.States.{States}
+use Rattle.dlpc200_table.specs.declared.states.States.{States}
 use Rattle.dlpc200.specs.declared.device.Device.{Device}
 use Rattle.dlpc200.specs.declared.endpoint.Answer.{Answer}
 use Rattle.dlpc200.specs.declared.endpoint.Answer.the-variants.{Waiting, Answered, ShortOutput, OutOfRule}

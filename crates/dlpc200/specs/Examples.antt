@@ -9,7 +9,7 @@ use Rattle.packet.specs.Packet.{sum}
 use Rattle.packet.specs.Stream.{packets}
 use Rattle.packet.specs.Calls.{joined}
 use Rattle.dlpc200_status.specs.Status.{faultBits}
-use Rattle.dlpc200_rules.specs.declared.states.States.{States}
+use Rattle.dlpc200_table.specs.declared.states.States.{States}
 use Rattle.dlpc200.specs.Playing.{responses, after}
 
 pub data Example : Type 0 where

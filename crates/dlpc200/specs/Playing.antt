@@ -3,7 +3,7 @@ use Prim.Native.Nat.{ℕ}
 use mathlib.Core.List.{List, [], _∷_}
 use Rattle.dlpc200_rules.specs.Judging.{arrived, judge, statesAfter, response}
 use Rattle.dlpc200_rules.specs.declared.judging.Judgement.{Judgement}
-use Rattle.dlpc200_rules.specs.declared.states.States.{States}
+use Rattle.dlpc200_table.specs.declared.states.States.{States}
 
 -- a packet is judged
 unfoldable pub judged : List ℕ → Judgement

@@ -1,7 +1,7 @@
 // The device: the states and the receiver. Firmware lends it, so it is made of numbers alone and
 // means something whatever they are.
 use dlpc200_packet::Receiver;
-use dlpc200_rules::States;
+use dlpc200_table::States;
 ghost use mathlib.Core.Path.{_≡_};
 ghost use Rattle.dlpc200.specs.Calls.{deviceWith, inRule, packetInRule};
 

@@ -2,7 +2,7 @@
 use crate::device::Device;
 use crate::response::respond;
 use dlpc200_packet::Receiver;
-use dlpc200_rules::States;
+use dlpc200_table::States;
 ghost use mathlib.Core.Path.{_≡_};
 ghost use Prim.Native.Nat.{_≤_};
 ghost use lib.ListN.{length};
@@ -44,7 +44,7 @@ fn complete(s: States, r: Receiver, right: bool, taken: usize, out: &mut [u8]) -
     let length = respond(out, header[0], s, j);
     Step {
         device: Device {
-            states: s.after(j),
+            states: dlpc200_rules::states_after(s, j),
             receiver: r,
         },
         answer: Answer::Answered { taken, length },

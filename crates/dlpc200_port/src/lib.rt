@@ -3,7 +3,7 @@
 // include/dlpc200.h is C's view of this crate, and include/dlpc200.rs Rust's.
 use dlpc200::Answer;
 use dlpc200::Device;
-use dlpc200_rules::States;
+use dlpc200_table::States;
 ghost use mathlib.Core.Path.{_≡_};
 ghost use Rattle.dlpc200.specs.Calls.{deviceWith, outcomeOf, receiveCall};
 ghost use Rattle.dlpc200_status.specs.Status.{faultBits};

@@ -12,7 +12,7 @@ use Rattle.packet.specs.Numbers.{bytesOf}
 use Rattle.packet.specs.Packet.{payload}
 use Rattle.packet.proofs.Cases.{bool-cases, and-left, or-left, or-right}
 use Rattle.dlpc200_packet.specs.Packet.{write, read, extended, only, checksum, rightSum, packetOf}
-use Rattle.dlpc200_rules.specs.Table.{cmd1For, sizeFor, parkAfter, inRange}
+use Rattle.dlpc200_table.specs.Table.{cmd1For, sizeFor, parkAfter, inRange}
 use Rattle.dlpc200_status.specs.Status.{anyFault, noFaults, data0, data1, faultBits, faultsHeld}
 use Rattle.dlpc200_rules.specs.Judging.{
   Arrived,
@@ -29,8 +29,8 @@ use Rattle.dlpc200_rules.specs.Judging.{
   responseData,
   response,
 }
-use Rattle.dlpc200_rules.specs.declared.command.Command.{Command}
-use Rattle.dlpc200_rules.specs.declared.command.Command.the-variants.{
+use Rattle.dlpc200_table.specs.declared.command.Command.{Command}
+use Rattle.dlpc200_table.specs.declared.command.Command.the-variants.{
   ParkDmd,
   UnparkDmd,
   GetDmdSoftwareParkState,
@@ -39,12 +39,12 @@ use Rattle.dlpc200_rules.specs.declared.command.Command.the-variants.{
   GetInitFromParallelFlashFail,
   GetOverallLedLampLitState,
 }
-use Rattle.dlpc200_rules.specs.declared.command.Found.{Found}
-use Rattle.dlpc200_rules.specs.declared.command.Found.the-variants.{Known, Unknown}
+use Rattle.dlpc200_table.specs.declared.command.Found.{Found}
+use Rattle.dlpc200_table.specs.declared.command.Found.the-variants.{Known, Unknown}
 use Rattle.dlpc200_status.specs.declared.faults.Faults.{Faults}
 use Rattle.dlpc200_rules.specs.declared.judging.Judgement.{Judgement}
 use Rattle.dlpc200_rules.specs.declared.judging.Judgement.the-variants.{Failed, Done}
-use Rattle.dlpc200_rules.specs.declared.states.States.{States}
+use Rattle.dlpc200_table.specs.declared.states.States.{States}
 use Rattle.dlpc200_status.proofs.Counting.{faults-counted}
 
 -- what holds of each command of the table holds of all

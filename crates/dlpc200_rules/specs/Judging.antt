@@ -5,14 +5,14 @@ use mathlib.Core.List.{List, [], _∷_}
 use lib.Dec.{eqb, ltb}
 use Rattle.packet.specs.Packet.{payloadLength, payload}
 use Rattle.dlpc200_packet.specs.Packet.{cmd1Of, cmd2Of, cmd4Of, idOf, write, read, writeResp, readResp, extended, only, rightSum, packetOf}
-use Rattle.dlpc200_rules.specs.Table.{cmd1For, sizeFor, commandOf, shownOf, dataOf, parkAfter}
+use Rattle.dlpc200_table.specs.Table.{cmd1For, sizeFor, commandOf, shownOf, dataOf, parkAfter}
 use Rattle.dlpc200_status.specs.Status.{anyFault, noFaults, data0, data1}
-use Rattle.dlpc200_rules.specs.declared.command.Found.{Found}
-use Rattle.dlpc200_rules.specs.declared.command.Found.the-variants.{Known, Unknown}
+use Rattle.dlpc200_table.specs.declared.command.Found.{Found}
+use Rattle.dlpc200_table.specs.declared.command.Found.the-variants.{Known, Unknown}
 use Rattle.dlpc200_status.specs.declared.faults.Faults.{Faults}
 use Rattle.dlpc200_rules.specs.declared.judging.Judgement.{Judgement}
 use Rattle.dlpc200_rules.specs.declared.judging.Judgement.the-variants.{Failed, Done}
-use Rattle.dlpc200_rules.specs.declared.states.States.{States}
+use Rattle.dlpc200_table.specs.declared.states.States.{States}
 
 -- a complete packet, as far as it is judged; CMD3 is not
 pub record Arrived : Type 0 where

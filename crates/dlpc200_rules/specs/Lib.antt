@@ -1,3 +1,2 @@
--- What the contracts cite, in the order of the source document.
-pub mod Table
+-- What the contracts cite.
 pub mod Judging

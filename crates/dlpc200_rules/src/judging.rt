@@ -1,9 +1,10 @@
 // How a complete packet is judged: every fault that holds.
-use crate::command::Command;
-use crate::command::Found;
 use dlpc200_status::Faults;
+use dlpc200_table::Command;
+use dlpc200_table::Found;
+use dlpc200_table::States;
 ghost use mathlib.Core.Path.{_≡_};
-ghost use Rattle.dlpc200_rules.specs.Judging.{arrivedBy, arrivedOf, commandIn, faultsOf, judge as judgeOf, judgedBy, wrongCmd1, wrongSize};
+ghost use Rattle.dlpc200_rules.specs.Judging.{arrivedBy, arrivedOf, commandIn, faultsOf, judge as judgeOf, judgedBy, statesAfter, wrongCmd1, wrongSize};
 
 pub enum Judgement {
     // The packet failed, with these faults; with none of them its command is unknown.
@@ -76,4 +77,16 @@ pub fn judge(header: [u8; 6], id: [u8; 2], right: bool) -> Judgement
 {
     let found = command_in(packet::word(header[4], header[5]), id);
     judged(faults_in(found, header, right), found)
+}
+
+// The states after a packet that was judged so.
+pub fn states_after(s: States, j: Judgement) -> States
+    ensures { λ r. ⌜ r ≡ statesAfter s j ⌝ }
+{
+    let mut t = s;
+    let Judgement::Done(c) = j else {
+        return t;
+    };
+    t.park = c.park(t.park);
+    t
 }

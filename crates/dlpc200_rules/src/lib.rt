@@ -1,15 +1,9 @@
-// The rules of the DLPC200's SPI port: the commands and the states, and how a complete packet is
-// judged. The faults and their status bytes are crate `dlpc200_status`.
+// The rules of the DLPC200's SPI port: how a complete packet is judged, and what that changes. The
+// commands and the states are crate `dlpc200_table`, the faults crate `dlpc200_status`.
 //
-// The contracts cite `specs/`: `Table` (the commands and the states) and `Judging` (the faults, and
-// what a judgement changes and answers).
-mod command;
+// The contracts cite `specs/Judging`.
 mod judging;
-mod states;
 
-pub use command::Command;
-pub use command::Found;
 pub use judging::Judgement;
 pub use judging::judge;
-pub use states::Shown;
-pub use states::States;
+pub use judging::states_after;

@@ -12,7 +12,7 @@ use Rattle.dlpc200.specs.Calls.{Answers, judgedIn, responseIn, completeB
 use Rattle.dlpc200_packet.specs.declared.receiver.Receiver.{Receiver}
 use Rattle.dlpc200.specs.declared.device.Device.{Device}
 use Rattle.dlpc200_rules.specs.declared.judging.Judgement.{Judgement}
-use Rattle.dlpc200_rules.specs.declared.states.States.{States}
+use Rattle.dlpc200_table.specs.declared.states.States.{States}
 use borrow.Author.Needs.{needs}
 use Rattle.dlpc200.proofs.endpoint.complete.Statement.{statement}
 use Rattle.dlpc200.proofs.endpoint.complete.Tie as tie
@@ -20,7 +20,7 @@ use Rattle.dlpc200.proofs.endpoint.complete.Reads as reads
 use Rattle.dlpc200.proofs.endpoint.complete.Lts as lts
 use Rattle.dlpc200.proofs.response.respond.Reads as respond-reads
 use Rattle.dlpc200_rules.proofs.judge.Reads as judge-reads
-use Rattle.dlpc200_rules.proofs.states.States.after.Reads as after-reads
+use Rattle.dlpc200_rules.proofs.states_after.Reads as states-after-reads
 
 -- the packet that the parts make is the response
 response-of : (s : States) (n : ℕ) (right : Bool) (r : Receiver) {j : Judgement} → j ≡ judge (arrivedBy (r .header) (r .id) right)
@@ -40,8 +40,8 @@ array-read-respond c = search needs
 respond-requires : tie.Need-respond-requires
 respond-requires c κs = search needs
 
-after-requires : tie.Need-after-requires
-after-requires c κs = search needs
+states-after-requires : tie.Need-states-after-requires
+states-after-requires c κs = search needs
 
 same-length : tie.Need-same-length
 same-length c = search needs
@@ -53,7 +53,7 @@ returns c =
     let k : j .result ≡ judgedIn (completeBy (a .taken) (a .right) (a .r)) = unfold judgedIn in j .ensures in
     let p = response-of (a .s) (a .taken) (a .right) (a .r) (j .ensures) in (
       ap (Answers (a .taken)) (c .before .before .before .respond .ensures .0 ∙ ap length p),
-      device-eq (c .after .ensures ∙ ap (statesAfter (a .s)) k),
+      device-eq (c .states-after .ensures ∙ ap (statesAfter (a .s)) k),
       c .before .before .before .respond .ensures .1 ∙ ap (λ (x : List ℕ). written x (now (a .out))) p,
     )
 
@@ -64,6 +64,6 @@ complete-spec =
     judge-requires
     array-read-respond
     respond-requires
-    after-requires
+    states-after-requires
     same-length
     returns)

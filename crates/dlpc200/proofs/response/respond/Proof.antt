@@ -7,7 +7,7 @@ use Rattle.dlpc200.proofs.response.respond.Lts as lts
 use Rattle.dlpc200.proofs.response.put_state.Reads as put-state-reads
 use Rattle.dlpc200.proofs.response.put_status.Reads as put-status-reads
 use Rattle.dlpc200.proofs.response.response_type.Reads as response-type-reads
-use Rattle.dlpc200_rules.proofs.states.States.shown.Reads as shown-reads
+use Rattle.dlpc200_table.proofs.states.States.shown.Reads as shown-reads
 use Rattle.dlpc200_status.proofs.status0.Reads as status0-reads
 use Rattle.dlpc200_status.proofs.status1.Reads as status1-reads
 

@@ -6,7 +6,7 @@ use Rattle.dlpc200_rules.proofs.judging.command_in.Statement.{statement
 use Rattle.dlpc200_rules.proofs.judging.command_in.Tie as tie
 use Rattle.dlpc200_rules.proofs.judging.command_in.Reads as reads
 use Rattle.dlpc200_rules.proofs.judging.command_in.Lts as lts
-use Rattle.dlpc200_rules.proofs.command.Command.find.Reads as find-reads
+use Rattle.dlpc200_table.proofs.command.Command.find.Reads as find-reads
 use Rattle.packet.proofs.word.Reads as word-reads
 
 returns : tie.Need-returns

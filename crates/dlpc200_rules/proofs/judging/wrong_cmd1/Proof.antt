@@ -5,7 +5,7 @@ use Rattle.dlpc200_rules.proofs.judging.wrong_cmd1.Statement.{statement
 use Rattle.dlpc200_rules.proofs.judging.wrong_cmd1.Tie as tie
 use Rattle.dlpc200_rules.proofs.judging.wrong_cmd1.Reads as reads
 use Rattle.dlpc200_rules.proofs.judging.wrong_cmd1.Lts as lts
-use Rattle.dlpc200_rules.proofs.command.Command.cmd1.Reads as cmd1-reads
+use Rattle.dlpc200_table.proofs.command.Command.cmd1.Reads as cmd1-reads
 
 enum-known-found : tie.Need-enum-known-found
 enum-known-found c = search needs

@@ -6,7 +6,7 @@ use Rattle.dlpc200.proofs.device.Device.in_rule.Tie as tie
 use Rattle.dlpc200.proofs.device.Device.in_rule.Reads as reads
 use Rattle.dlpc200.proofs.device.Device.in_rule.Lts as lts
 use Rattle.dlpc200.proofs.device.packet_in_rule.Reads as packet-in-rule-reads
-use Rattle.dlpc200_rules.proofs.states.States.in_range.Reads as in-range-reads
+use Rattle.dlpc200_table.proofs.states.States.in_range.Reads as in-range-reads
 
 in-range-requires : tie.Need-in-range-requires
 in-range-requires c κs = search needs

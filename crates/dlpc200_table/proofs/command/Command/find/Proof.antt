@@ -1,10 +1,10 @@
 -- `Command::find` meets its contract: the tests go in table order.
 use borrow.Author.Tests.{eq-eqb, ne-eqb}
-use Rattle.dlpc200_rules.specs.Table.{find, commandOf}
-use Rattle.dlpc200_rules.proofs.command.Command.find.Statement.{statement}
-use Rattle.dlpc200_rules.proofs.command.Command.find.Tie as tie
-use Rattle.dlpc200_rules.proofs.command.Command.find.Reads as reads
-use Rattle.dlpc200_rules.proofs.command.Command.find.Lts as lts
+use Rattle.dlpc200_table.specs.Table.{find, commandOf}
+use Rattle.dlpc200_table.proofs.command.Command.find.Statement.{statement}
+use Rattle.dlpc200_table.proofs.command.Command.find.Tie as tie
+use Rattle.dlpc200_table.proofs.command.Command.find.Reads as reads
+use Rattle.dlpc200_table.proofs.command.Command.find.Lts as lts
 
 returns : tie.Need-returns
 unfolding commandOf find

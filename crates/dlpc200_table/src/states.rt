@@ -1,10 +1,8 @@
 // The states that the commands read. The host supplies them, so they are numbers alone and mean
 // something whatever they are.
 use crate::command::Command;
-use crate::judging::Judgement;
 ghost use mathlib.Core.Path.{_≡_};
-ghost use Rattle.dlpc200_rules.specs.Table.{inRange, shownOf};
-ghost use Rattle.dlpc200_rules.specs.Judging.{statesAfter};
+ghost use Rattle.dlpc200_table.specs.Table.{inRange, shownOf};
 
 #[repr(C)]
 pub struct States {
@@ -51,17 +49,5 @@ impl States {
             Command::GetInitFromParallelFlashFail => Shown::State(self.flash),
             Command::GetOverallLedLampLitState => Shown::State(self.lit),
         }
-    }
-
-    // The states after a packet that was judged so.
-    pub fn after(self, j: Judgement) -> States
-        ensures { λ r. ⌜ r ≡ statesAfter self j ⌝ }
-    {
-        let mut s = self;
-        let Judgement::Done(c) = j else {
-            return s;
-        };
-        s.park = c.park(s.park);
-        s
     }
 }

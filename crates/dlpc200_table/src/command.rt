@@ -1,6 +1,6 @@
 // The seven commands, by the source document's titles, and their IDs.
 ghost use mathlib.Core.Path.{_≡_};
-ghost use Rattle.dlpc200_rules.specs.Table.{cmd1For, commandOf, parkAfter};
+ghost use Rattle.dlpc200_table.specs.Table.{cmd1For, commandOf, parkAfter};
 
 pub enum Command {
     ParkDmd,

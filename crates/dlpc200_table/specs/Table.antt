@@ -4,8 +4,8 @@ use mathlib.Core.Bool.{Bool, cond, _&&_}
 use mathlib.Core.List.{List, [], _∷_}
 use lib.Dec.{eqb, leb}
 use Rattle.dlpc200_packet.specs.Packet.{write, read}
-use Rattle.dlpc200_rules.specs.declared.command.Command.{Command}
-use Rattle.dlpc200_rules.specs.declared.command.Command.the-variants.{
+use Rattle.dlpc200_table.specs.declared.command.Command.{Command}
+use Rattle.dlpc200_table.specs.declared.command.Command.the-variants.{
   ParkDmd,
   UnparkDmd,
   GetDmdSoftwareParkState,
@@ -14,11 +14,11 @@ use Rattle.dlpc200_rules.specs.declared.command.Command.the-variants.{
   GetInitFromParallelFlashFail,
   GetOverallLedLampLitState,
 }
-use Rattle.dlpc200_rules.specs.declared.command.Found.{Found}
-use Rattle.dlpc200_rules.specs.declared.command.Found.the-variants.{Known, Unknown}
-use Rattle.dlpc200_rules.specs.declared.states.States.{States}
-use Rattle.dlpc200_rules.specs.declared.states.Shown.{Shown}
-use Rattle.dlpc200_rules.specs.declared.states.Shown.the-variants.{State, Nothing}
+use Rattle.dlpc200_table.specs.declared.command.Found.{Found}
+use Rattle.dlpc200_table.specs.declared.command.Found.the-variants.{Known, Unknown}
+use Rattle.dlpc200_table.specs.declared.states.States.{States}
+use Rattle.dlpc200_table.specs.declared.states.Shown.{Shown}
+use Rattle.dlpc200_table.specs.declared.states.Shown.the-variants.{State, Nothing}
 
 -- the commands in the order of their sections: 6.6, 6.7, 6.22, 6.23, 6.24, 6.42, 6.43
 abbrev pub table : List Command

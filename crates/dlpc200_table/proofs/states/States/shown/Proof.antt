@@ -1,9 +1,9 @@
 -- `States::shown` meets its contract.
 use borrow.Author.Needs.{needs}
-use Rattle.dlpc200_rules.proofs.states.States.shown.Statement.{statement}
-use Rattle.dlpc200_rules.proofs.states.States.shown.Tie as tie
-use Rattle.dlpc200_rules.proofs.states.States.shown.Reads as reads
-use Rattle.dlpc200_rules.proofs.states.States.shown.Lts as lts
+use Rattle.dlpc200_table.proofs.states.States.shown.Statement.{statement}
+use Rattle.dlpc200_table.proofs.states.States.shown.Tie as tie
+use Rattle.dlpc200_table.proofs.states.States.shown.Reads as reads
+use Rattle.dlpc200_table.proofs.states.States.shown.Lts as lts
 
 enum-told : tie.Need-enum-told
 enum-told c = search needs
