@@ -18,7 +18,7 @@ ghost use Rattle.packet.specs.Packet.{payloadLength};
 ghost use Rattle.writer.specs.Writing.{written};
 ghost use Rattle.judging.specs.Held.{heldIn, transferInRule, transferStateAfter};
 ghost use Rattle.judging.specs.Judging.{settingsAfter};
-ghost use Rattle.command.specs.Calls.{controllerOf, outcomeOf, receiveCall, judgedOn, drawnOn};
+ghost use Rattle.command.specs.Calls.{controllerOf, outcomeOf, partsInRule, receiveCall, judgedOn, drawnOn};
 
 // The controller's parts beside its hold, and the answer.
 pub struct Served {
@@ -62,6 +62,52 @@ fn settle(
     }
 }
 
+// A call that is not refused.
+fn advance(
+    settings: Settings,
+    transfer: TransferState,
+    header: [u8; 6],
+    sum: u8,
+    received: usize,
+    hold: &mut [u8; 1024],
+    input: &[u8],
+    out: &mut [u8],
+) -> Served
+    requires { ⌜ (partsInRule settings transfer header received ≡ true) × (64 ≤ length (now out)) ⌝ }
+    ensures { λ r. ⌜ (outcomeOf (r .answer) ≡ receiveCall (controllerOf settings transfer header sum received (now (hold .entry))) (now (input .entry)) (now (out .entry)) .answer)
+        × (controllerOf (r .settings) (r .transfer) (r .header) (r .sum) (r .received) (now (hold .exit)) ≡ receiveCall (controllerOf settings transfer header sum received (now (hold .entry))) (now (input .entry)) (now (out .entry)) .controller)
+        × (now (out .exit) ≡ receiveCall (controllerOf settings transfer header sum received (now (hold .entry))) (now (input .entry)) (now (out .entry)) .output) ⌝ }
+{
+    let mut h = header;
+    put_header(&mut h, received, input);
+    let t = take(h, sum, received, hold, transfer.held(), input);
+    if !t.complete {
+        return Served {
+            settings: settings,
+            transfer: transfer,
+            header: h,
+            sum: t.sum,
+            received: t.received,
+            answer: Answer::Waiting(t.taken),
+        };
+    }
+    let s = settle(settings, transfer, h, t.right, hold, out);
+    let after = s.settings;
+    let left = s.transfer;
+    Served {
+        settings: after,
+        transfer: left,
+        header: h,
+        sum: t.sum,
+        received: t.received,
+        answer: Answer::Answered {
+            taken: t.taken,
+            length: s.length,
+        },
+    }
+}
+
+// The call: it refuses, or goes on.
 pub fn serve(
     settings: Settings,
     transfer: TransferState,
@@ -97,31 +143,5 @@ pub fn serve(
             answer: Answer::OutOfRule,
         };
     }
-    let mut h = header;
-    put_header(&mut h, received, input);
-    let t = take(h, sum, received, hold, transfer.held(), input);
-    if !t.complete {
-        return Served {
-            settings: settings,
-            transfer: transfer,
-            header: h,
-            sum: t.sum,
-            received: t.received,
-            answer: Answer::Waiting(t.taken),
-        };
-    }
-    let s = settle(settings, transfer, h, t.right, hold, out);
-    let after = s.settings;
-    let left = s.transfer;
-    Served {
-        settings: after,
-        transfer: left,
-        header: h,
-        sum: t.sum,
-        received: t.received,
-        answer: Answer::Answered {
-            taken: t.taken,
-            length: s.length,
-        },
-    }
+    advance(settings, transfer, header, sum, received, hold, input, out)
 }

@@ -1,53 +1,14 @@
 -- `serve` meets its contract.
-use mathlib.Core.Path.{_≡_, refl, sym, ap, _∙_}
+use mathlib.Core.Path.{_≡_, refl, sym, _∙_}
 use borrow.Author.Tests.{lt-ltb, le-ltb, not-true, not-false}
-use denote.Ref.{now}
-use Prim.Native.Nat.{ℕ, _≤_}
-use mathlib.Core.Bool.{Bool, true, false}
-use mathlib.Core.List.{List}
-use lib.ListN.{length}
-use Rattle.packet.specs.Receiving.{receiving}
-use Rattle.packet.specs.declared.receiver.Receiver.{Receiver}
-use Rattle.packet.specs.declared.receiver.Received.{Received}
-use Rattle.packet.proofs.Lent.{together, taken-is}
-use Rattle.settings.specs.declared.settings.Settings.{Settings}
-use Rattle.judging.specs.Held.{heldIn}
-use Rattle.judging.specs.declared.transfer.TransferState.{TransferState}
-use Rattle.command.specs.Calls.{Answers, controllerOf, inRule, judgedIn, responseIn, completeBy, After, waiting, answered, receiveCall}
-use Rattle.command.specs.declared.controller.Controller.{Controller}
-use Rattle.command.proofs.Serving.{rule-parts}
 use borrow.Author.Needs.{needs}
+use Rattle.command.specs.Calls.{inRule, receiveCall}
 use Rattle.command.proofs.parts.serve.Statement.{statement}
 use Rattle.command.proofs.parts.serve.Tie as tie
 use Rattle.command.proofs.parts.serve.Reads as reads
 use Rattle.command.proofs.parts.serve.Lts as lts
 use Rattle.command.proofs.controller.in_rule.Reads as in-rule-reads
-use Rattle.command.proofs.parts.settle.Reads as settle-reads
-use Rattle.judging.proofs.transfer.TransferState.held.Reads as held-reads
-use Rattle.packet.proofs.put_header.Reads as put-header-reads
-use Rattle.packet.proofs.take.Reads as take-reads
-
--- A call that is not refused, t being what the receiver took.
-module _
-    (c : Controller)
-    (input out : List ℕ)
-    (l : 64 ≤ length out)
-    (r : inRule c ≡ true)
-    {t : Received}
-    (e : t ≡ receiving (c .receiver) (heldIn (c .transfer)) input) where
-  waits : t .complete ≡ false → receiveCall c input out ≡ waiting c t out
-  unfolding receiveCall
-  waits f = rw (le-ltb (length out) 64 l, r, ← e, f)
-
-  answers : t .complete ≡ true
-      → receiveCall c input out
-      ≡ answered (record { settings = c .settings; transfer = c .transfer; receiver = t .receiver }) (completeBy (t .taken) (t .right) (t .receiver)) out
-  unfolding receiveCall responseIn judgedIn
-  answers f = rw (le-ltb (length out) 64 l, r, ← e, f)
-
-controller-eq : {s s′ : Settings} {t t′ : TransferState} {r : Receiver} → s ≡ s′ → t ≡ t′
-    → _≡_ {A = Controller} (record { settings = s; transfer = t; receiver = r }) (record { settings = s′; transfer = t′; receiver = r })
-controller-eq e f = cc
+use Rattle.command.proofs.parts.advance.Reads as advance-reads
 
 in-rule-requires : tie.Need-in-rule-requires
 in-rule-requires c κs = search needs
@@ -56,10 +17,6 @@ returns : tie.Need-returns
 unfolding receiveCall
 returns c = let e = lt-ltb _ _ (c .if1 .taken) in (rw e, rw e, rw e)
 
--- the controller as it came in, and that refusal 3 lets it pass
-abbrev came : tie.Start → Controller
-came s = let a = s .args in controllerOf (a .settings) (a .transfer) (a .header) (a .sum) (a .received) (now (a .hold))
-
 returns-2 : tie.Need-returns-2
 unfolding receiveCall inRule
 returns-2 c =
@@ -67,74 +24,16 @@ returns-2 c =
     let f = sym (c .before .before .in-rule .ensures) ∙ not-true (c .before .before .in-rule .result) (c .if2 .taken) in
     (rw (e, f), rw (e, f), rw (e, f))
 
-put-header-requires : tie.Need-put-header-requires
-put-header-requires c κs = search needs
-
-held-requires : tie.Need-held-requires
-held-requires c κs = search needs
-
-take-requires : tie.Need-take-requires
-take-requires c κs = search needs
-
--- what the receiver took of the input, and that the controller was in rule
-took : (c : tie.After-take)
-    → let s = c .before .before .before .before .before .before .before .before .before .before in
-    together (c .before .before .before .put-header .last .0) (c .take .last .1 .1 .1 .0) (c .take .result)
-    ≡ receiving (came s .receiver) (heldIn (s .args .transfer)) (now (s .args .input))
-took c =
-    let h = c .before .before .before in
-    let s = h .before .before .before .before .before .before .before in
-    let a = s .args in
-    let n : length (a .header) ≡ 6 = search (needs, s .good .1 .1 .0) in
-    taken-is (came s .receiver) (heldIn (a .transfer)) (now (a .input)) n (h .put-header .ensures) (c .before .held .ensures) (c .take .ensures .0) (c .take .ensures .1)
-
-passed : (q : tie.Else2) → inRule (came (q .before .before .before .before .before)) ≡ true
-unfolding inRule
-passed q = sym (q .before .before .in-rule .ensures) ∙ not-false (q .before .before .in-rule .result) (q .if2 .left)
-
-returns-3 : tie.Need-returns-3
-returns-3 c =
-    let t = c .before .before in
-    let q = t .before .before .before .before .before in
-    let s = q .before .before .before .before .before in
-    let w = waits (came s) (now (s .args .input)) (now (s .args .out)) (q .before .if1 .left) (passed q) (took t) (not-true (t .take .result .complete) (c .if3 .taken)) in
-    (sym (ap (λ (x : After). x .answer) w), sym (ap (λ (x : After). x .controller) w), sym (ap (λ (x : After). x .output) w))
-
-settle-requires : tie.Need-settle-requires
-settle-requires c κs =
-    let q = c .before .before .before .before .before .before .before .before .before .before in
-    let s = q .before .before .before .before .before in
-    let n : length (c .before .before .before .before .before .take .last .1 .1 .1 .0) ≡ 1024 = search needs in
-    (rule-parts (came s) (passed q) .transfer, n, search needs)
+advance-requires : tie.Need-advance-requires
+advance-requires c κs =
+    let q = c .before .before in
+    (sym (q .before .before .in-rule .ensures) ∙ not-false (q .before .before .in-rule .result) (q .if2 .left), search needs)
 
 same-length : tie.Need-same-length
 same-length c = search needs
 
-returns-4 : tie.Need-returns-4
-unfolding responseIn judgedIn
-returns-4 c =
-    let e = c .before .before .before .before .settle .ensures in
-    let k = c .before .before .before .before .before .before .before .before in
-    let t = k .before .before in
-    let q = t .before .before .before .before .before in
-    let s = q .before .before .before .before .before in
-    let w = answers (came s) (now (s .args .input)) (now (s .args .out)) (q .before .if1 .left) (passed q) (took t) (not-false (t .take .result .complete) (k .if3 .left)) in (
-      ap (Answers (t .take .result .taken)) (e .2) ∙ sym (ap (λ (x : After). x .answer) w),
-      controller-eq (e .0) (e .1) ∙ sym (ap (λ (x : After). x .controller) w),
-      e .3 ∙ sym (ap (λ (x : After). x .output) w),
-    )
+returns-3 : tie.Need-returns-3
+returns-3 c = c .before .before .advance .ensures
 
 pub serve-spec : {M : Type 1} → statement M
-serve-spec =
-    tie.close
-    (tie.spec
-    in-rule-requires
-    returns
-    returns-2
-    put-header-requires
-    held-requires
-    take-requires
-    returns-3
-    settle-requires
-    same-length
-    returns-4)
+serve-spec = tie.close (tie.spec in-rule-requires returns returns-2 advance-requires same-length returns-3)
