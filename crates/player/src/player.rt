@@ -6,13 +6,35 @@ use judging::TransferState;
 use rules::settings_in_rule;
 use settings::Settings;
 ghost use mathlib.Core.Path.{_≡_};
-ghost use Rattle.player.specs.Played.{endSettings, endClean};
+ghost use Rattle.command.specs.Calls.{outcomeOf, receiveCall};
+ghost use Rattle.player.specs.Played.{headOf, endSettings, endClean};
 
 // Where a play ended: the settings, and whether each packet was acknowledged and nothing was left
 // half sent.
 pub struct Played {
     pub settings: Settings,
     pub clean: bool,
+}
+
+// One call on a head of these parts.
+fn turn(c: Served, hold: &mut [u8; 1024], input: &[u8], out: &mut [u8]) -> Served
+    ensures { λ r. ⌜ (outcomeOf (r .answer) ≡ receiveCall (headOf c (now (hold .entry))) (now (input .entry)) (now (out .entry)) .answer)
+        × (headOf r (now (hold .exit)) ≡ receiveCall (headOf c (now (hold .entry))) (now (input .entry)) (now (out .entry)) .controller)
+        × (now (out .exit) ≡ receiveCall (headOf c (now (hold .entry))) (now (input .entry)) (now (out .entry)) .output) ⌝ }
+{
+    let settings = c.settings;
+    let transfer = c.transfer;
+    let header = c.header;
+    serve(
+        settings,
+        transfer,
+        header,
+        c.sum,
+        c.received,
+        hold,
+        input,
+        out,
+    )
 }
 
 // Settings out of rule are not played: they stay, and nothing is clean.
@@ -38,19 +60,7 @@ pub fn play(s: Settings, b: &[u8]) -> Played
     let mut good = true;
     let mut at: usize = 0;
     while at < b.len() {
-        let settings = c.settings;
-        let transfer = c.transfer;
-        let header = c.header;
-        let step = serve(
-            settings,
-            transfer,
-            header,
-            c.sum,
-            c.received,
-            &mut hold,
-            &b[at..],
-            &mut out,
-        );
+        let step = turn(c, &mut hold, &b[at..], &mut out);
         let answer = step.answer;
         c = step;
         match answer {
