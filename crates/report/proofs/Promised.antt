@@ -41,7 +41,9 @@ use Rattle.records.specs.Found.{outOf}
 use Rattle.report_end.specs.Winner.{winnerAt}
 use Rattle.records.specs.declared.record.Outcome.{Outcome}
 use Rattle.records.specs.declared.record.Outcome.the-variants.{Value, Refused}
-use Rattle.trials.specs.Found.{First, BestOf}
+use Rattle.trials.specs.Found.{bestOf}
+use Rattle.trials.specs.declared.best.Best.{Best}
+use Rattle.trials.proofs.Lowest.{First, first-best}
 use Rattle.report.specs.Answers.{verdictIn, scoreIn, settingsIn}
 use Rattle.tuning.proofs.Flat.{nested, flat, then-good, need-good, trials-left, end-place, ofTrials, end-trials}
 use Rattle.tuning.proofs.Reports.{Ends, Laid, reading-report, length-report, lowest-true, lowest-back, demand3-of}
@@ -84,15 +86,17 @@ unfolding kindIn
 unlike e = let z : _≡_ {A = ℕ} 0 1 = ap kindIn e in omega arith
 
 -- what the best trial tells of the trials that were read
-pub best-bad : (o : Out Trials) {n p : ℕ} (k score : ℕ) (e : Settings) → BestOf o (Refused n p) k score e → o ≡ Bad n p
+pub best-bad : (o : Out Trials) (a : Best) {n p : ℕ} → a ≡ bestOf o → a .next ≡ Refused n p → o ≡ Bad n p
 unfolding asTrials
-best-bad (Bad a b) k score e h = sym (ap asTrials (h .0))
-best-bad (Good q) k score e h = absurd (unlike (sym (h .0)))
+best-bad (Bad x y) a h e = ap asTrials (sym (ap (λ (z : Best). z .next) h) ∙ e)
+best-bad (Good q) a h e = absurd (unlike (sym (ap (λ (z : Best). z .next) h) ∙ e))
 
-pub best-good : (o : Out Trials) {place : ℕ} (k score : ℕ) (e : Settings) → BestOf o (Value place) k score e → (q : Trials) × (o ≡ Good q) × (place ≡ q .at) × First (q .list) k score e
+pub best-good : (o : Out Trials) (a : Best) {place : ℕ} → a ≡ bestOf o → a .next ≡ Value place
+    → (q : Trials) × (o ≡ Good q) × (place ≡ q .at) × First (q .list) (a .trial) (a .score) (a .settings)
 unfolding placeIn
-best-good (Bad a b) k score e h = absurd (unlike (h .0))
-best-good (Good q) k score e h = (q, refl, ap placeIn (h .0), h .1)
+best-good (Bad x y) a h e = absurd (unlike (sym e ∙ ap (λ (z : Best). z .next) h))
+best-good (Good q) a h e =
+    (q, refl, ap placeIn (sym e ∙ ap (λ (z : Best). z .next) h), subst (λ (z : Best). First (q .list) (z .trial) (z .score) (z .settings)) (sym h) (first-best (q .list)))
 
 -- refused before the end
 pub head-no : (r : List ℕ) {n p : ℕ} → readHead r ≡ Bad n p → verdict r ≡ RefusedWith n p

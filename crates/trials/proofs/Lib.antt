@@ -1,2 +1,3 @@
 -- The laws of the trials.
+pub mod Lowest
 pub mod Walking

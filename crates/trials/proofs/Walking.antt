@@ -24,7 +24,8 @@ use Rattle.records.specs.declared.record.Outcome.{Outcome}
 use Rattle.records.specs.declared.record.Outcome.the-variants.{Value, Refused}
 use Rattle.player.specs.Played.{endSettings}
 use Rattle.trial.specs.Trials.{before, bytesAt, TrialIs}
-use Rattle.trials.specs.Found.{First, BestOf}
+use Rattle.trials.specs.Found.{bestOf}
+use Rattle.trials.proofs.Lowest.{First, answer, best-is}
 
 -- whatever is played, the settings keep the rules
 kept-after : (a : State) (ps : List (List ℕ)) → Kept (a .settings) → Kept (after a ps .settings)
@@ -69,6 +70,7 @@ unfolding scoreAt endFrom
 first-none =
     record {
       named = λ h. absurd (omega arith);
+      none = λ h. refl;
       first = record { lowest = λ i h. absurd (omega arith); earlier = λ i h. absurd (omega arith) };
       scored = refl;
       ends = refl;
@@ -90,6 +92,7 @@ first-stays ts t k score e z l h =
     let n = h .named z in
     record {
       named = λ _. omega (arith, n, length-append ts (t ∷ []));
+      none = λ x. absurd (omega (arith, x, length-append ts (t ∷ [])));
       first = lowest-stays ts t k n (subst (λ (x : ℕ). x ≤ t .score) (h .scored) l) (h .first);
       scored = h .scored ∙ sym (score-front ts (t ∷ []) k n);
       ends = h .ends ∙ sym (end-front factory ts (t ∷ []) k n);
@@ -100,6 +103,7 @@ unfolding scoreAt endFrom
 first-only t =
     record {
       named = λ _. omega arith;
+      none = λ h. absurd (omega arith);
       first =
           record {
             lowest = λ i h. let z : i ≡ 0 = omega arith in rw z (omega arith);
@@ -114,6 +118,7 @@ first-new : (ts : List Trial) (t : Trial) (k score : ℕ) (e : Settings) → 0 <
 first-new ts t k score e z l h =
     record {
       named = λ _. omega (arith, length-append ts (t ∷ []));
+      none = λ x. absurd (omega (arith, x, length-append ts (t ∷ [])));
       first = lowest-new ts t k (h .named z) (subst (λ (x : ℕ). t .score < x) (h .scored) l) (h .first);
       scored = sym (score-last ts t);
       ends = sym (end-last factory ts t);
@@ -187,18 +192,18 @@ walked-by {r} {i} {at} {k} {k′} {score} {score′} {last} {e} {e′} p q f w =
 pub walked-missed : {r : List ℕ} {m i at k score n p : ℕ} {last e f : Settings} {o : Outcome} → Walked r i at last k score e → i < m → o ≡ Refused n p
     → ((x : ℕ) → readTrials (suc x) at (drop at r) ≡ Bad n p)
     → f ≡ factory
-    → BestOf (readTrials m 8 (drop 8 r)) o 0 0 f
+    → answer o 0 0 f ≡ bestOf (readTrials m 8 (drop 8 r))
 unfolding _>>=_
 walked-missed {r} {m} {i} {at} {k} {score} {n} {p} {last} {e} {f} {o} w h q g z =
     let x = m - i - 1 in
     let s : m ≡ i + suc x = omega arith in
-    subst (λ (y : Out Trials). BestOf y o 0 0 f)
+    ap₂ (λ (y : Outcome) (v : Settings). answer y 0 0 v) q z
+    ∙ ap bestOf
     (sym (ap (λ (y : ℕ). readTrials y 8 (drop 8 r)) s ∙ w .reads (suc x) ∙ ap (λ (y : Out Trials). y >>= λ t. Good (onto (w .list) t)) (g x)))
-    (q, refl, refl, z)
 
-pub walked-end : {r : List ℕ} {m i at k score : ℕ} {last e : Settings} → Walked r i at last k score e → i ≡ m → BestOf (readTrials m 8 (drop 8 r)) (Value at) k score e
+pub walked-end : {r : List ℕ} {m i at k score : ℕ} {last e : Settings} → Walked r i at last k score e → i ≡ m → answer (Value at) k score e ≡ bestOf (readTrials m 8 (drop 8 r))
 unfolding readTrials _>>=_
 walked-end {r} {m} {i} {at} {k} {score} {last} {e} w h =
     let s : m ≡ i + 0 = omega arith in
-    subst (λ (y : Out Trials). BestOf y (Value at) k score e) (sym (ap (λ (y : ℕ). readTrials y 8 (drop 8 r)) s ∙ w .reads 0))
-    (refl, subst (λ (x : List Trial). First x k score e) (sym (append-nil (w .list))) (w .best))
+    best-is (w .list ++ []) at (drop at r) (subst (λ (x : List Trial). First x k score e) (sym (append-nil (w .list))) (w .best))
+    ∙ ap bestOf (sym (ap (λ (y : ℕ). readTrials y 8 (drop 8 r)) s ∙ w .reads 0))

@@ -6,7 +6,7 @@ use trial::trial_at;
 ghost use mathlib.Core.Path.{_≡_};
 ghost use lib.ListN.{drop};
 ghost use Rattle.tuning.specs.Report.{readTrials};
-ghost use Rattle.trials.specs.Found.{BestOf};
+ghost use Rattle.trials.specs.Found.{bestOf};
 
 // The first of the lowest-scored trials, with its score and the settings that it ended with, and the
 // place after all of them; 0 and factory values with a refusal.
@@ -20,7 +20,7 @@ pub struct Best {
 // That many trials, from byte 8 on; trial 0 starts from factory values, each later trial from where
 // the last ended.
 pub fn best_of(r: &[u8], count: usize) -> Best
-    ensures { λ t. ⌜ BestOf (readTrials count 8 (drop 8 (now (r .entry)))) (t .next) (t .trial) (t .score) (t .settings) ⌝ }
+    ensures { λ t. ⌜ t ≡ bestOf (readTrials count 8 (drop 8 (now (r .entry)))) ⌝ }
 {
     let start = Settings::factory();
     let mut last = start;

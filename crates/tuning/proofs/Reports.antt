@@ -123,13 +123,13 @@ pub settings-refl : (a : Settings) → sameSettings a a ≡ true
 unfolding sameSettings
 settings-refl a = every-all (λ c. sameList (valuesOf c a) (valuesOf c a)) (λ c. list-refl (valuesOf c a)) table
 
-none-below : (n : ℕ) (ts : List Trial) → noneBelow n ts ≡ true → (i : ℕ) → i < length ts → n ≤ scoreAt ts i
+pub none-below : (n : ℕ) (ts : List Trial) → noneBelow n ts ≡ true → (i : ℕ) → i < length ts → n ≤ scoreAt ts i
 unfolding noneBelow scoreAt
 none-below n [] h i l = absurd (omega arith)
 none-below n (t ∷ ts) h zero l = leb-true n (t .score) (and-left (leb n (t .score)) (noneBelow n ts) h)
 none-below n (t ∷ ts) h (suc i) l = none-below n ts (and-right (leb n (t .score)) (noneBelow n ts) h) i (omega arith)
 
-none-below-back : (n : ℕ) (ts : List Trial) → ((i : ℕ) → i < length ts → n ≤ scoreAt ts i) → noneBelow n ts ≡ true
+pub none-below-back : (n : ℕ) (ts : List Trial) → ((i : ℕ) → i < length ts → n ≤ scoreAt ts i) → noneBelow n ts ≡ true
 unfolding noneBelow scoreAt
 none-below-back n [] h = refl
 none-below-back n (t ∷ ts) h =

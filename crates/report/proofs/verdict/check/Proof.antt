@@ -19,7 +19,7 @@ use Rattle.records.specs.Found.{outOf}
 use Rattle.report_end.specs.Winner.{winnerAt}
 use Rattle.records.specs.declared.record.Outcome.{Outcome}
 use Rattle.records.specs.declared.record.Outcome.the-variants.{Value, Refused}
-use Rattle.trials.specs.Found.{First, BestOf}
+use Rattle.trials.proofs.Lowest.{First}
 use Rattle.player.specs.Played.{endSettings, endClean}
 use Rattle.report.proofs.Promised.{promised-no, promised-yes, best-bad, best-good, head-no, trials-no, winner-no, room, short, refused-18, refused-19, accepted-with}
 use borrow.Author.Needs.{needs}
@@ -56,8 +56,7 @@ trials-are c =
     let t = c .before .before in
     let h = t .before .before in
     let o = readTrials (h .head .given .0 .0) 8 (drop 8 (reportIn (h .before .before .before))) in
-    best-good o (t .best-of .result .trial) (t .best-of .result .score) (t .best-of .result .settings)
-    (subst (λ (x : Outcome). BestOf o x (t .best-of .result .trial) (t .best-of .result .score) (t .best-of .result .settings)) (c .next .given .1) (t .best-of .ensures))
+    best-good o (t .best-of .result) (t .best-of .ensures) (c .next .given .1)
 
 winner-is : (c : tie.After-enum-told3)
     → let n = c .before .before .before .before in
@@ -154,7 +153,7 @@ returns-2 c =
     let x = readTrials (h .head .given .0 .0) 8 (drop 8 r) in
     promised-no r (all-bytes k)
     (trials-no r (h .head .given .0 .0) (head-is h)
-    (best-bad x (b .trial) (b .score) (b .settings) (subst (λ (y : Outcome). BestOf x y (b .trial) (b .score) (b .settings)) (o .enum-told2 .given .1) (t .best-of .ensures))))
+    (best-bad x b (t .best-of .ensures) (o .enum-told2 .given .1)))
     (c .refused2 .ensures .0 ∙ o .enum-told2 .given .1) (c .refused2 .ensures .1) (c .refused2 .ensures .2)
 
 winner-of-requires : tie.Need-winner-of-requires
