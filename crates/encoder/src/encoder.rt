@@ -1,10 +1,10 @@
 // The encoder of write packets and the standard shipping list.
 use carrying::emit;
-use effects::allowed;
 use rules::settings_in_rule;
 use settings::Command;
 use settings::Settings;
 use values::Value;
+use write_rules::allowed;
 ghost use mathlib.Core.Path.{_≡_};
 ghost use Prim.Native.Nat.{_≤_};
 ghost use lib.ListN.{length};

@@ -1,11 +1,11 @@
 // How a complete packet is judged. The judgement is data: carrying it out is another step.
 use crate::transfer::TransferState;
-use effects::allowed;
-use effects::blocked;
 use settings::Command;
 use settings::Found;
 use values::Parsed;
 use values::Value;
+use write_rules::allowed;
+use write_rules::blocked;
 ghost use mathlib.Core.Path.{_≡_};
 ghost use Prim.Native.Nat.{_+_};
 ghost use lib.Dec.{ltb};

@@ -1,9 +1,9 @@
 -- `allowed` meets its contract, a line of the table in each arm.
 use borrow.Author.Needs.{needs}
-use Rattle.effects.proofs.effects.allowed.Statement.{statement}
-use Rattle.effects.proofs.effects.allowed.Tie as tie
-use Rattle.effects.proofs.effects.allowed.Reads as reads
-use Rattle.effects.proofs.effects.allowed.Lts as lts
+use Rattle.write_rules.proofs.write.allowed.Statement.{statement}
+use Rattle.write_rules.proofs.write.allowed.Tie as tie
+use Rattle.write_rules.proofs.write.allowed.Reads as reads
+use Rattle.write_rules.proofs.write.allowed.Lts as lts
 
 enum-known-v : tie.Need-enum-known-v
 enum-known-v c = search needs

@@ -21,10 +21,10 @@ use Rattle.values.specs.declared.value.Value.the-variants.{
 }
 use Rattle.values.proofs.value.Value.{the-type}
 use borrow.Author.Needs.{needs}
-use Rattle.effects.proofs.effects.blocked.Statement.{statement}
-use Rattle.effects.proofs.effects.blocked.Tie as tie
-use Rattle.effects.proofs.effects.blocked.Reads as reads
-use Rattle.effects.proofs.effects.blocked.Lts as lts
+use Rattle.write_rules.proofs.write.blocked.Statement.{statement}
+use Rattle.write_rules.proofs.write.blocked.Tie as tie
+use Rattle.write_rules.proofs.write.blocked.Reads as reads
+use Rattle.write_rules.proofs.write.blocked.Lts as lts
 
 abbrev rest : List ℕ
 rest = 0 ∷ 1 ∷ 2 ∷ 3 ∷ 4 ∷ 5 ∷ 6 ∷ 7 ∷ []
