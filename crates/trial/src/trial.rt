@@ -2,7 +2,10 @@
 use records::Outcome;
 use records::record_at;
 use records::refusal;
-ghost use Rattle.trial.specs.Trials.{TrialRead};
+ghost use mathlib.Core.Path.{_≡_};
+ghost use lib.ListN.{drop};
+ghost use Rattle.tuning.specs.Report.{readTrials};
+ghost use Rattle.trial.specs.Trials.{trialIn};
 
 // A trial: the place after its record, and its score; 0 with a refusal. Its packets stand from byte 8
 // of the record to that place.
@@ -13,7 +16,7 @@ pub struct Trial {
 
 // The trial at a place.
 pub fn trial_at(r: &[u8], at: usize) -> Trial
-    ensures { λ t. ⌜ TrialRead (now (r .entry)) at (t .next) (t .score) ⌝ }
+    ensures { λ t. ⌜ t ≡ trialIn (readTrials 1 at (drop at (now (r .entry)))) ⌝ }
 {
     let due = record_at(r, at, 2);
     let Outcome::Value(n) = due else {

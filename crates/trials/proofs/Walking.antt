@@ -23,7 +23,7 @@ use Rattle.tuning.proofs.Trials.{onto, lowest-stays, lowest-new, score-front, s
 use Rattle.records.specs.declared.record.Outcome.{Outcome}
 use Rattle.records.specs.declared.record.Outcome.the-variants.{Value, Refused}
 use Rattle.player.specs.Played.{endSettings}
-use Rattle.trial.specs.Trials.{before, bytesAt, TrialIs}
+use Rattle.trial.proofs.Steps.{before, bytesAt, TrialIs}
 use Rattle.trials.specs.Found.{bestOf}
 use Rattle.trials.proofs.Lowest.{First, answer, best-is}
 

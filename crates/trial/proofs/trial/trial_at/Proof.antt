@@ -6,7 +6,7 @@ use native.Mathlib.Omega.{arith}
 use denote.Ref.{now}
 use Rattle.records.proofs.Records.{ReadAt}
 use Rattle.records.specs.declared.record.Outcome.the-variants.{Value}
-use Rattle.trial.proofs.Steps.{no-trial, trial-missed, trial-13, trial-is}
+use Rattle.trial.proofs.Steps.{no-trial, trial-missed, trial-13, trial-is, trial-told}
 use borrow.Author.Needs.{needs}
 use Rattle.trial.proofs.trial.trial_at.Statement.{statement}
 use Rattle.trial.proofs.trial.trial_at.Tie as tie
@@ -39,7 +39,8 @@ returns c =
     let k = p .before in
     let a = k .before .args in
     let o = c .enum-told .given in
-    no-trial (reportIn k) (a .at) (o .1) (trial-missed (reportIn k) (a .at) (sym (subst (ReadAt (reportIn k) 2 (a .at)) (o .1) (p .record-at .ensures) .0)))
+    trial-told (reportIn k) (a .at)
+    (no-trial (reportIn k) (a .at) (o .1) (trial-missed (reportIn k) (a .at) (sym (subst (ReadAt (reportIn k) 2 (a .at)) (o .1) (p .record-at .ensures) .0))))
 
 add-next : tie.Need-add-next
 add-next c = omega (arith, found-trial (c .before) .1)
@@ -56,7 +57,8 @@ returns-2 c =
     let k = d .before .before .before in
     let a = k .before .args in
     let f = found-trial d in
-    no-trial (reportIn k) (a .at) (c .refusal .ensures) (trial-13 (reportIn k) (a .at) (d .due .given .0 .0) (f .1) (sym (f .0)) (c .before .if1 .taken))
+    trial-told (reportIn k) (a .at)
+    (no-trial (reportIn k) (a .at) (c .refusal .ensures) (trial-13 (reportIn k) (a .at) (d .due .given .0 .0) (f .1) (sym (f .0)) (c .before .if1 .taken)))
 
 add-word : tie.Need-add-word
 add-word c = omega (arith, found-trial (c .before .before) .1)
@@ -111,7 +113,8 @@ returns-3 c =
     let a = k .before .args in
     let f = found-trial d in
     let n = d .due .given .0 .0 in
-    trial-is (reportIn k) (a .at) n (f .1) (sym (f .0)) (omega (arith, e .if1 .left)) (w .word .ensures .0) (c .word2 .ensures .0)
+    trial-told (reportIn k) (a .at)
+    (trial-is (reportIn k) (a .at) n (f .1) (sym (f .0)) (omega (arith, e .if1 .left)) (w .word .ensures .0) (c .word2 .ensures .0))
 
 pub trial-at-spec : {M : Type 1} → statement M
 trial-at-spec =

@@ -10,7 +10,7 @@ use Rattle.settings.specs.Settings.{factory, settingsInRule}
 use Rattle.settings.specs.declared.settings.Settings.{Settings}
 use Rattle.settings.proofs.Keeping.{kept-factory, in-rule-of}
 use Rattle.records.specs.declared.record.Outcome.{Outcome}
-use Rattle.trial.specs.Trials.{bytesAt, TrialRead, TrialIs}
+use Rattle.trial.proofs.Steps.{bytesAt, TrialRead, TrialIs, trial-read}
 use Rattle.trials.proofs.Walking.{Walked, walked-start, walked-better, walked-other, walked-by, walked-missed, walked-end, played, rule-played}
 use Rattle.trials.proofs.best.best_of.Statement.{statement}
 use Rattle.trials.proofs.best.best_of.Tie as tie
@@ -35,7 +35,7 @@ trial-in : (c : tie.After-next Inv-loop μ-loop)
 trial-in c =
     let t = c .before .before in
     let l = t .before .before in
-    subst (λ (o : Outcome). TrialRead (now (l .before .before .before .args .r)) (l .loop .at) o (t .trial-at .result .score)) (c .next .given .1) (t .trial-at .ensures)
+    subst (λ (o : Outcome). TrialRead (now (l .before .before .before .args .r)) (l .loop .at) o (t .trial-at .result .score)) (c .next .given .1) (trial-read (now (l .before .before .before .args .r)) (l .loop .at) (t .trial-at .result) (t .trial-at .ensures))
 
 -- one trial more
 again : (c : tie.Joined1 Inv-loop μ-loop)
@@ -78,7 +78,7 @@ returns c =
     let l = t .before .before in
     let a = l .before .before .before .args in
     let none =
-    subst (λ (o : Outcome). TrialRead (now (a .r)) (l .loop .at) o (t .trial-at .result .score)) (c .enum-told .given .1) (t .trial-at .ensures) in
+    subst (λ (o : Outcome). TrialRead (now (a .r)) (l .loop .at) o (t .trial-at .result .score)) (c .enum-told .given .1) (trial-read (now (a .r)) (l .loop .at) (t .trial-at .result) (t .trial-at .ensures)) in
     walked-missed (l .loop .inv .2) (t .before .loop-test .taken) (c .enum-told .given .1) (none .0) (l .before .factory .ensures)
 
 add-play : tie.Need-add-play Inv-loop μ-loop
