@@ -1,9 +1,9 @@
 -- `open_for` meets its contract: a known command is asked for its bytes.
 use borrow.Author.Needs.{needs}
-use Rattle.judging.proofs.judge.open_for.Statement.{statement}
-use Rattle.judging.proofs.judge.open_for.Tie as tie
-use Rattle.judging.proofs.judge.open_for.Reads as reads
-use Rattle.judging.proofs.judge.open_for.Lts as lts
+use Rattle.first_faults.proofs.first_group.open_for.Statement.{statement}
+use Rattle.first_faults.proofs.first_group.open_for.Tie as tie
+use Rattle.first_faults.proofs.first_group.open_for.Reads as reads
+use Rattle.first_faults.proofs.first_group.open_for.Lts as lts
 
 enum-known-found : tie.Need-enum-known-found
 enum-known-found c = search needs

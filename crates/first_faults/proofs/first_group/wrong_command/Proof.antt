@@ -1,10 +1,10 @@
 -- `wrong_command` meets its contract.
 use Rattle.judging.specs.Judging.{wrongCommand}
 use borrow.Author.Needs.{needs}
-use Rattle.judging.proofs.judge.wrong_command.Statement.{statement}
-use Rattle.judging.proofs.judge.wrong_command.Tie as tie
-use Rattle.judging.proofs.judge.wrong_command.Reads as reads
-use Rattle.judging.proofs.judge.wrong_command.Lts as lts
+use Rattle.first_faults.proofs.first_group.wrong_command.Statement.{statement}
+use Rattle.first_faults.proofs.first_group.wrong_command.Tie as tie
+use Rattle.first_faults.proofs.first_group.wrong_command.Reads as reads
+use Rattle.first_faults.proofs.first_group.wrong_command.Lts as lts
 
 known-requires : tie.Need-known-requires
 known-requires c κs = search needs

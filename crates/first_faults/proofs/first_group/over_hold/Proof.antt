@@ -5,10 +5,10 @@ use native.Mathlib.Omega.{arith}
 use lib.Dec.{ltb}
 use borrow.Author.Tests.{lt-ltb, le-ltb, ltb-true, ltb-false}
 use Rattle.packet.proofs.Cases.{bool-cases}
-use Rattle.judging.proofs.judge.over_hold.Statement.{statement}
-use Rattle.judging.proofs.judge.over_hold.Tie as tie
-use Rattle.judging.proofs.judge.over_hold.Reads as reads
-use Rattle.judging.proofs.judge.over_hold.Lts as lts
+use Rattle.first_faults.proofs.first_group.over_hold.Statement.{statement}
+use Rattle.first_faults.proofs.first_group.over_hold.Tie as tie
+use Rattle.first_faults.proofs.first_group.over_hold.Reads as reads
+use Rattle.first_faults.proofs.first_group.over_hold.Lts as lts
 
 -- what is over the room left is over the whole
 room-left : (held size : ℕ) → held ≤ 1024 → ltb (1024 - held) size ≡ ltb 1024 (held + size)

@@ -1,10 +1,10 @@
 -- `too_long` meets its contract.
 use Rattle.judging.specs.Judging.{tooLong}
 use borrow.Author.Needs.{needs}
-use Rattle.judging.proofs.judge.too_long.Statement.{statement}
-use Rattle.judging.proofs.judge.too_long.Tie as tie
-use Rattle.judging.proofs.judge.too_long.Reads as reads
-use Rattle.judging.proofs.judge.too_long.Lts as lts
+use Rattle.first_faults.proofs.first_group.too_long.Statement.{statement}
+use Rattle.first_faults.proofs.first_group.too_long.Tie as tie
+use Rattle.first_faults.proofs.first_group.too_long.Reads as reads
+use Rattle.first_faults.proofs.first_group.too_long.Lts as lts
 
 over-hold-requires : tie.Need-over-hold-requires
 over-hold-requires c κs = search needs

@@ -1,16 +1,15 @@
 -- `faults` meets its contract.
 use Rattle.judging.specs.Judging.{faultsOf}
 use borrow.Author.Needs.{needs}
-use Rattle.judging.proofs.judge.faults.Statement.{statement}
-use Rattle.judging.proofs.judge.faults.Tie as tie
-use Rattle.judging.proofs.judge.faults.Reads as reads
-use Rattle.judging.proofs.judge.faults.Lts as lts
+use Rattle.first_faults.proofs.first_group.faults.Statement.{statement}
+use Rattle.first_faults.proofs.first_group.faults.Tie as tie
+use Rattle.first_faults.proofs.first_group.faults.Reads as reads
+use Rattle.first_faults.proofs.first_group.faults.Lts as lts
 use Rattle.judging.proofs.transfer.TransferState.held.Reads as held-reads
-use Rattle.judging.proofs.transfer.TransferState.is_open.Reads as is-open-reads
-use Rattle.judging.proofs.judge.open_for.Reads as open-for-reads
-use Rattle.judging.proofs.judge.too_long.Reads as too-long-reads
-use Rattle.judging.proofs.judge.wrong_command.Reads as wrong-command-reads
-use Rattle.judging.proofs.judge.wrong_order.Reads as wrong-order-reads
+use Rattle.first_faults.proofs.first_group.open_for.Reads as open-for-reads
+use Rattle.first_faults.proofs.first_group.too_long.Reads as too-long-reads
+use Rattle.first_faults.proofs.first_group.wrong_command.Reads as wrong-command-reads
+use Rattle.first_faults.proofs.first_group.wrong_order.Reads as wrong-order-reads
 
 array-read-kind : tie.Need-array-read-kind
 array-read-kind c = search needs
@@ -26,9 +25,6 @@ array-read-word-2 c = search needs
 
 word-requires : tie.Need-word-requires
 word-requires c κs = search needs
-
-is-open-requires : tie.Need-is-open-requires
-is-open-requires c κs = search needs
 
 open-for-requires : tie.Need-open-for-requires
 open-for-requires c κs = search needs
@@ -56,7 +52,6 @@ returns c =
       c .wrong-order .ensures,
       d .held .ensures,
       d .before .open-for .ensures,
-      d .before .before .is-open .ensures,
       e .word .ensures .0,
     )
 
@@ -69,7 +64,6 @@ faults-spec =
     array-read-word
     array-read-word-2
     word-requires
-    is-open-requires
     open-for-requires
     held-requires
     wrong-command-requires

@@ -4,14 +4,14 @@ use borrow.Author.Needs.{needs}
 use borrow.Author.Tests.{not-true, not-false}
 use denote.Ref.{now}
 use Rattle.packet.specs.Packet.{typeOf, flagsOf}
 use Rattle.judging.specs.Judging.{judgeData}
 use Rattle.judging.proofs.Judged.{data-held, data-read, data-write}
-use Rattle.judging.proofs.judge.judge_data.Statement.{statement}
-use Rattle.judging.proofs.judge.judge_data.Tie as tie
-use Rattle.judging.proofs.judge.judge_data.Reads as reads
-use Rattle.judging.proofs.judge.judge_data.Lts as lts
-use Rattle.judging.proofs.judge.judge_read.Reads as judge-read-reads
-use Rattle.judging.proofs.judge.judge_write.Reads as judge-write-reads
+use Rattle.later_faults.proofs.complete.judge_data.Statement.{statement}
+use Rattle.later_faults.proofs.complete.judge_data.Tie as tie
+use Rattle.later_faults.proofs.complete.judge_data.Reads as reads
+use Rattle.later_faults.proofs.complete.judge_data.Lts as lts
+use Rattle.later_faults.proofs.complete.judge_read.Reads as judge-read-reads
+use Rattle.later_faults.proofs.complete.judge_write.Reads as judge-write-reads
 
 enum-known-found : tie.Need-enum-known-found
 enum-known-found c = search needs

@@ -6,14 +6,14 @@ use denote.Ref.{now}
 use Rattle.settings.specs.Table.{allowed}
 use Rattle.settings.specs.Settings.{blocked}
 use Rattle.values.specs.Values.{commandIn, valuesIn}
 use Rattle.judging.specs.Judging.{valueFault, modeFault, judgeWrite}
 use Rattle.judging.specs.declared.judge.Judgement.the-variants.{Refuse, Write}
 use Rattle.judging.proofs.Judged.{write-wrong, write-values}
 use borrow.Author.Needs.{needs}
-use Rattle.judging.proofs.judge.judge_write.Statement.{statement}
-use Rattle.judging.proofs.judge.judge_write.Tie as tie
-use Rattle.judging.proofs.judge.judge_write.Reads as reads
-use Rattle.judging.proofs.judge.judge_write.Lts as lts
+use Rattle.later_faults.proofs.complete.judge_write.Statement.{statement}
+use Rattle.later_faults.proofs.complete.judge_write.Tie as tie
+use Rattle.later_faults.proofs.complete.judge_write.Reads as reads
+use Rattle.later_faults.proofs.complete.judge_write.Lts as lts
 
 -- the judgement, by the values that were read
 values-of : (c : tie.After-v)

@@ -1,10 +1,10 @@
 -- `judge_read` meets its contract.
 use borrow.Author.Tests.{eq-eqb, ne-eqb}
 use Rattle.judging.specs.Judging.{judgeRead}
-use Rattle.judging.proofs.judge.judge_read.Statement.{statement}
-use Rattle.judging.proofs.judge.judge_read.Tie as tie
-use Rattle.judging.proofs.judge.judge_read.Reads as reads
-use Rattle.judging.proofs.judge.judge_read.Lts as lts
+use Rattle.later_faults.proofs.complete.judge_read.Statement.{statement}
+use Rattle.later_faults.proofs.complete.judge_read.Tie as tie
+use Rattle.later_faults.proofs.complete.judge_read.Reads as reads
+use Rattle.later_faults.proofs.complete.judge_read.Lts as lts
 
 returns : tie.Need-returns
 unfolding judgeRead
