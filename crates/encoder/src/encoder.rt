@@ -1,6 +1,6 @@
 // The encoder of write packets and the standard shipping list.
-use carrying::emit;
 use effects::allowed;
+use emitting::emit;
 use rules::settings_in_rule;
 use settings::Command;
 use settings::Settings;

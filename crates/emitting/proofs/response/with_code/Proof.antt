@@ -7,10 +7,10 @@ use lib.ListN.{length}
 use lib.Seq.{take-suc-set}
 use Rattle.values.specs.Data.{contents}
 use borrow.Author.Needs.{needs}
-use Rattle.carrying.proofs.carry.with_code.Statement.{statement}
-use Rattle.carrying.proofs.carry.with_code.Tie as tie
-use Rattle.carrying.proofs.carry.with_code.Reads as reads
-use Rattle.carrying.proofs.carry.with_code.Lts as lts
+use Rattle.emitting.proofs.response.with_code.Statement.{statement}
+use Rattle.emitting.proofs.response.with_code.Tie as tie
+use Rattle.emitting.proofs.response.with_code.Reads as reads
+use Rattle.emitting.proofs.response.with_code.Lts as lts
 
 element-write-more : tie.Need-element-write-more
 element-write-more c = search needs

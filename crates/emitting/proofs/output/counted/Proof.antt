@@ -5,10 +5,10 @@ use native.Mathlib.Omega.{arith}
 use lib.ListN.{length}
 use lib.Seq.{take-all}
 use borrow.Author.Needs.{needs}
-use Rattle.carrying.proofs.carry.counted.Statement.{statement}
-use Rattle.carrying.proofs.carry.counted.Tie as tie
-use Rattle.carrying.proofs.carry.counted.Reads as reads
-use Rattle.carrying.proofs.carry.counted.Lts as lts
+use Rattle.emitting.proofs.output.counted.Statement.{statement}
+use Rattle.emitting.proofs.output.counted.Tie as tie
+use Rattle.emitting.proofs.output.counted.Reads as reads
+use Rattle.emitting.proofs.output.counted.Lts as lts
 
 returns : tie.Need-returns
 returns c =

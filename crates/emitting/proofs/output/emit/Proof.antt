@@ -11,13 +11,13 @@ use Rattle.packet.specs.Packet.{whole}
 use Rattle.values.specs.Data.{contents}
 use Rattle.writer.specs.Writing.{fits, answerTo, outputAfter}
 use Rattle.writer.specs.declared.write.Written.the-variants.{Length, NoRoom}
-use Rattle.carrying.specs.Emitting.{lengthIn}
+use Rattle.emitting.specs.Emitting.{lengthIn}
 use borrow.Author.Needs.{needs}
-use Rattle.carrying.proofs.carry.emit.Statement.{statement}
-use Rattle.carrying.proofs.carry.emit.Tie as tie
-use Rattle.carrying.proofs.carry.emit.Reads as reads
-use Rattle.carrying.proofs.carry.emit.Lts as lts
-use Rattle.carrying.proofs.carry.counted.Reads as counted-reads
+use Rattle.emitting.proofs.output.emit.Statement.{statement}
+use Rattle.emitting.proofs.output.emit.Tie as tie
+use Rattle.emitting.proofs.output.emit.Reads as reads
+use Rattle.emitting.proofs.output.emit.Lts as lts
+use Rattle.emitting.proofs.output.counted.Reads as counted-reads
 
 counted-requires : tie.Need-counted-requires
 counted-requires c κs = search needs

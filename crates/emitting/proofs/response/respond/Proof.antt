@@ -6,15 +6,15 @@ use denote.Ref.{now}
 use lib.ListN.{length}
 use Rattle.packet.specs.Packet.{whole}
 use Rattle.writer.specs.Writing.{outputAfter}
-use Rattle.carrying.specs.Emitting.{lengthIn}
+use Rattle.emitting.specs.Emitting.{lengthIn}
 use borrow.Author.Needs.{needs}
-use Rattle.carrying.proofs.carry.respond.Statement.{statement}
-use Rattle.carrying.proofs.carry.respond.Tie as tie
-use Rattle.carrying.proofs.carry.respond.Reads as reads
-use Rattle.carrying.proofs.carry.respond.Lts as lts
-use Rattle.carrying.proofs.carry.emit.Reads as emit-reads
-use Rattle.carrying.proofs.carry.response_data.Reads as response-data-reads
-use Rattle.carrying.proofs.carry.response_type.Reads as response-type-reads
+use Rattle.emitting.proofs.response.respond.Statement.{statement}
+use Rattle.emitting.proofs.response.respond.Tie as tie
+use Rattle.emitting.proofs.response.respond.Reads as reads
+use Rattle.emitting.proofs.response.respond.Lts as lts
+use Rattle.emitting.proofs.output.emit.Reads as emit-reads
+use Rattle.emitting.proofs.response.response_data.Reads as response-data-reads
+use Rattle.emitting.proofs.response.response_type.Reads as response-type-reads
 
 response-type-requires : tie.Need-response-type-requires
 response-type-requires c κs = search needs

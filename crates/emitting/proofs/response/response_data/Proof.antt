@@ -3,11 +3,11 @@ use mathlib.Core.Path.{refl}
 use native.Mathlib.Omega.{arith}
 use Rattle.values.proofs.Valued.{data-from}
 use borrow.Author.Needs.{needs}
-use Rattle.carrying.proofs.carry.response_data.Statement.{statement}
-use Rattle.carrying.proofs.carry.response_data.Tie as tie
-use Rattle.carrying.proofs.carry.response_data.Reads as reads
-use Rattle.carrying.proofs.carry.response_data.Lts as lts
-use Rattle.carrying.proofs.carry.codes_data.Reads as codes-data-reads
+use Rattle.emitting.proofs.response.response_data.Statement.{statement}
+use Rattle.emitting.proofs.response.response_data.Tie as tie
+use Rattle.emitting.proofs.response.response_data.Reads as reads
+use Rattle.emitting.proofs.response.response_data.Lts as lts
+use Rattle.emitting.proofs.response.codes_data.Reads as codes-data-reads
 
 enum-known-j : tie.Need-enum-known-j
 enum-known-j c = search needs

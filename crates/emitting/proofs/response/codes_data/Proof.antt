@@ -7,11 +7,11 @@ use native.Mathlib.Omega.{arith}
 use Rattle.judging.specs.Judging.{listIf, codesOf}
 use Rattle.judging.specs.declared.judge.Codes.{Codes}
 use borrow.Author.Needs.{needs}
-use Rattle.carrying.proofs.carry.codes_data.Statement.{statement}
-use Rattle.carrying.proofs.carry.codes_data.Tie as tie
-use Rattle.carrying.proofs.carry.codes_data.Reads as reads
-use Rattle.carrying.proofs.carry.codes_data.Lts as lts
-use Rattle.carrying.proofs.carry.with_code.Reads as with-code-reads
+use Rattle.emitting.proofs.response.codes_data.Statement.{statement}
+use Rattle.emitting.proofs.response.codes_data.Tie as tie
+use Rattle.emitting.proofs.response.codes_data.Reads as reads
+use Rattle.emitting.proofs.response.codes_data.Lts as lts
+use Rattle.emitting.proofs.response.with_code.Reads as with-code-reads
 
 list-append : (b : Bool) (n : ℕ) (l m : List ℕ) → listIf b n l ++ m ≡ listIf b n (l ++ m)
 unfolding listIf

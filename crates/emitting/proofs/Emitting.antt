@@ -23,7 +23,7 @@ use Rattle.judging.specs.Judging.{listIf, codesOf, responseData}
 use Rattle.judging.specs.declared.judge.Codes.{Codes}
 use Rattle.judging.specs.declared.judge.Judgement.{Judgement}
 use Rattle.judging.specs.declared.judge.Judgement.the-variants.{Refuse, Hold, Write, Read}
-use Rattle.carrying.specs.Emitting.{lengthIn}
+use Rattle.emitting.specs.Emitting.{lengthIn}
 
 module _ (kind cmd1 cmd2 : ℕ) (d out : List ℕ) (n : length d ≤ 17) (l : 24 ≤ length out) where
   pub emitted-length : lengthIn (length out) d ≡ length (packetOf kind cmd1 cmd2 whole d)
