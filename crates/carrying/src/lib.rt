@@ -1,9 +1,8 @@
-// Carrying out a judgement: what it changes, and the response that it draws.
+// Carrying out a judgement: what it changes.
 //
-// The contracts cite `specs/Emitting` and the definitions of the crate judging.
+// The contracts cite the `specs/` of the crate `judging`: `Judging` (the settings afterwards) and `Held`
+// (the transfer afterwards).
 mod carry;
 
-pub use carry::emit;
-pub use carry::respond;
 pub use carry::settings_after;
 pub use carry::transfer_after;

@@ -1,8 +1,8 @@
 // How a complete packet is judged, on the controller's hold.
+use first_faults::faults;
 use judging::Judgement;
 use judging::TransferState;
-use judging::faults;
-use judging::judge_data;
+use later_faults::judge_data;
 use settings::Command;
 ghost use mathlib.Core.Bool.{true};
 ghost use mathlib.Core.Path.{_≡_};

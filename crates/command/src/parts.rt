@@ -3,9 +3,9 @@
 use crate::controller::in_rule;
 use crate::endpoint::Answer;
 use crate::judge::judge;
-use carrying::respond;
 use carrying::settings_after;
 use carrying::transfer_after;
+use emitting::respond;
 use judging::TransferState;
 use packet::put_header;
 use packet::take;

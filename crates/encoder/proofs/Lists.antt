@@ -22,7 +22,7 @@ use Rattle.settings.specs.declared.settings.Settings.{Settings}
 use Rattle.settings.specs.declared.command.Command.{Command}
 use Rattle.values.proofs.Layouts.{length-join}
 use Rattle.settings.proofs.Commands.{each, size-small}
-use Rattle.carrying.proofs.Emitting.{data-length}
+use Rattle.emitting.proofs.Emitting.{data-length}
 use Rattle.values.proofs.Valued.{command-from, data-from}
 use Rattle.settings.proofs.Keeping.{Kept, Fits, length-values}
 use Rattle.encoder.proofs.Writes.{write-packet, next-write}

@@ -1,5 +1,5 @@
 // The encoder of write packets and the standard shipping list.
-use carrying::emit;
+use emitting::emit;
 use rules::settings_in_rule;
 use settings::Command;
 use settings::Settings;

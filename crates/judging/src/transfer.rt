@@ -1,7 +1,7 @@
 // The open transfer, as the controller has it: numbers alone, which mean something whatever they are.
 use settings::Command;
 ghost use mathlib.Core.Path.{_≡_};
-ghost use Rattle.judging.specs.Held.{heldIn, isOpenIn, transferInRule};
+ghost use Rattle.judging.specs.Held.{heldIn, transferInRule};
 
 // An open transfer: its command's bytes, and how many bytes of it are held. None is open where
 // `active` is 0.
@@ -20,12 +20,6 @@ impl TransferState {
         cmd2: 0,
         held: 0,
     };
-
-    pub(crate) fn is_open(self) -> bool
-        ensures { λ r. ⌜ r ≡ isOpenIn self ⌝ }
-    {
-        !(self.active == 0)
-    }
 
     // How many bytes are held.
     pub fn held(self) -> usize

@@ -7,8 +7,8 @@ use denote.Ref.{now}
 use lib.ListN.{length, getD}
 use Rattle.packet.specs.Packet.{packetOf, payloadLength, whole}
 use Rattle.writer.specs.Writing.{written, outputAfter}
-use Rattle.carrying.specs.Emitting.{lengthIn}
-use Rattle.carrying.proofs.Emitting.{emitted-length, emitted, response-short}
+use Rattle.emitting.specs.Emitting.{lengthIn}
+use Rattle.emitting.proofs.Emitting.{emitted-length, emitted, response-short}
 use Rattle.judging.specs.Judging.{responseType, responseData, settingsAfter, response}
 use Rattle.judging.specs.Held.{heldIn, transferStateAfter, packetIn}
 use Rattle.command.specs.Calls.{judgedOn, drawnOn}
@@ -20,7 +20,7 @@ use Rattle.command.proofs.parts.settle.Statement.{statement}
 use Rattle.command.proofs.parts.settle.Tie as tie
 use Rattle.command.proofs.parts.settle.Reads as reads
 use Rattle.command.proofs.parts.settle.Lts as lts
-use Rattle.carrying.proofs.respond.Reads as respond-reads
+use Rattle.emitting.proofs.respond.Reads as respond-reads
 use Rattle.carrying.proofs.settings_after.Reads as settings-after-reads
 use Rattle.carrying.proofs.transfer_after.Reads as transfer-after-reads
 use Rattle.command.proofs.judge.judge.Reads as judge-reads

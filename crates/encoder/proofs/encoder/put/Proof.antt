@@ -12,7 +12,7 @@ use Rattle.values.specs.Values.{commandIn, dataIn}
 use Rattle.settings.specs.declared.command.Command.{Command}
 use Rattle.values.specs.declared.value.Value.{Value}
 use Rattle.values.specs.Data.{contents}
-use Rattle.carrying.proofs.Emitting.{emitted-length, emitted, contents-short}
+use Rattle.emitting.proofs.Emitting.{emitted-length, emitted, contents-short}
 use Rattle.encoder.proofs.Writes.{packet-eq}
 use borrow.Author.Needs.{needs}
 use Rattle.encoder.proofs.encoder.put.Statement.{statement}

@@ -1,2 +1,0 @@
--- The laws of carrying out, for the layers above.
-pub mod Emitting

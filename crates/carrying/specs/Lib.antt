@@ -1,2 +1,0 @@
--- What the contracts of carrying out cite.
-pub mod Emitting

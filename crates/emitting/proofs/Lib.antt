@@ -1,0 +1,2 @@
+-- The laws of emitting, for the layers above.
+pub mod Emitting

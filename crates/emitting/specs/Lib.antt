@@ -1,0 +1,2 @@
+-- What the contracts of emitting cite.
+pub mod Emitting
