@@ -6,18 +6,18 @@ use native.Mathlib.Omega.{arith}
 use denote.Ref.{now}
 use lib.ListN.{length}
 use lib.Seq.{length-take-le}
 use Rattle.packet.specs.Taking.{before}
 use Rattle.packet.proofs.Lent.{waits-from, completes-from, kept-from}
 use borrow.Author.Needs.{needs}
-use Rattle.packet.proofs.taking.take.Statement.{statement}
-use Rattle.packet.proofs.taking.take.Tie as tie
-use Rattle.packet.proofs.taking.take.Reads as reads
-use Rattle.packet.proofs.taking.take.Lts as lts
-use Rattle.packet.proofs.number.word.Reads as word-reads
-use Rattle.packet.proofs.run.keep.Reads as keep-reads
-use Rattle.packet.proofs.run.least.Reads as least-reads
-use Rattle.packet.proofs.run.less.Reads as less-reads
-use Rattle.packet.proofs.run.sum_with.Reads as sum-with-reads
+use Rattle.taking.proofs.taking.take.Statement.{statement}
+use Rattle.taking.proofs.taking.take.Tie as tie
+use Rattle.taking.proofs.taking.take.Reads as reads
+use Rattle.taking.proofs.taking.take.Lts as lts
+use Rattle.packet.proofs.word.Reads as word-reads
+use Rattle.taking.proofs.run.keep.Reads as keep-reads
+use Rattle.taking.proofs.run.least.Reads as least-reads
+use Rattle.taking.proofs.run.less.Reads as less-reads
+use Rattle.taking.proofs.run.sum_with.Reads as sum-with-reads
 
 array-read-word : tie.Need-array-read-word
 array-read-word c = search needs
