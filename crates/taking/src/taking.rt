@@ -33,8 +33,9 @@ pub fn take(
 {
     let before = less(6 + word(header[4], header[5]), received);
     let n = least(before, input.len());
-    let total = sum_with(sum, &input[..n]);
-    keep(hold, held, received, &input[..n]);
+    let b = &input[..n];
+    let total = sum_with(sum, b);
+    keep(hold, held, received, b);
     if input.len() <= before {
         return Taken {
             taken: n,
