@@ -5,6 +5,7 @@ use crate::say::count;
 use crate::say::text;
 use packet::Received;
 use packet::Receiver;
+use receiving::receive;
 ghost use Prim.Native.Nat.{_≤_, _<_};
 ghost use lib.ListN.{length};
 
@@ -38,7 +39,7 @@ fn in_pieces(start: Receiver, b: &[u8], from: usize, piece: usize) -> Received
     while at < b.len() {
         let n = in_piece(b.len() - at, at, piece);
         let end = at + n;
-        let t = r.receive(0, &b[at..end]);
+        let t = receive(r, 0, &b[at..end]);
         let taken = t.taken;
         let q = t.receiver;
         r = q;
@@ -108,7 +109,7 @@ fn is_same(b: &[u8], piece: usize) -> bool
     let mut r = Receiver::fresh();
     let mut at: usize = 0;
     while at <= b.len() {
-        let t = r.receive(0, &b[at..]);
+        let t = receive(r, 0, &b[at..]);
         let u = in_pieces(r, b, at, piece);
         if !same_answer(t, u) {
             return false;

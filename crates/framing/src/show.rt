@@ -7,6 +7,7 @@ use crate::say::count;
 use crate::say::next;
 use crate::say::text;
 use packet::Receiver;
+use receiving::receive;
 ghost use Prim.Native.Nat.{_≤_, _<_};
 ghost use lib.ListN.{length};
 
@@ -113,7 +114,7 @@ pub fn packets(number: usize, b: &[u8]) {
     let mut r = Receiver::fresh();
     let mut at: usize = 0;
     while at <= b.len() {
-        let t = r.receive(0, &b[at..]);
+        let t = receive(r, 0, &b[at..]);
         let taken = t.taken;
         let q = t.receiver;
         if b.len() - at < taken {

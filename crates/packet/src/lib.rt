@@ -1,23 +1,20 @@
-// The packet layer: bytes to packets.
+// The packet: its form on the wire, its numbers, and the receiver as a value.
 //
 // A packet is byte 0 its type, 1 CMD1, 2 CMD2, 3 flags, 4 and 5 the payload length, then the
-// payload, then the checksum. This crate frames packets; writing them, and what a command means,
-// is left to the crates above. Its contracts cite `specs/`: `Packet` (the fields), `Stream` (the
-// packets of a list of bytes), `Receiving` (the receiver) and `Taking` (the same with its arrays lent).
+// payload, then the checksum. The calls that take packets from bytes (`taking`, `receiving`), writing
+// them, and what a command means are left to the crates above. What all of them cite is in `specs/`:
+// `Packet` (the fields), `Stream` (the packets of a list of bytes), `Receiving` (the receiver),
+// `Taking` (the same with its arrays lent) and `Calls` (a stream in pieces).
 mod next;
 mod number;
 mod receiver;
-mod run;
 mod taking;
 
 pub use next::Next;
-pub use next::next_packet;
 pub use number::word;
 pub use receiver::Received;
 pub use receiver::Receiver;
 pub use taking::Taken;
-pub use taking::put_header;
-pub use taking::take;
 ghost use mathlib.Core.Path.{_≡_};
 ghost use Rattle.packet.specs.Packet.{typesAndFlags};
 

@@ -1,8 +1,6 @@
-// The receiver: takes one packet from a stream of bytes, byte by byte as the stream arrives.
-use crate::taking::put_header;
-use crate::taking::take;
+// The receiver of a stream of bytes, and what one call of it took.
 ghost use mathlib.Core.Path.{_≡_};
-ghost use Rattle.packet.specs.Receiving.{fresh as freshOf, receiving};
+ghost use Rattle.packet.specs.Receiving.{fresh as freshOf};
 
 // What has come in of the current packet, and the hold of payload bytes. Between two packets
 // `received` and `sum` are 0, and header and hold are those of the last packet.
@@ -39,23 +37,5 @@ impl Receiver {
         ensures { λ r. ⌜ r ≡ freshOf ⌝ }
     {
         Receiver::FRESH
-    }
-
-    // Takes bytes until the input ends or one packet is complete.
-    pub fn receive(mut self, held: usize, input: &[u8]) -> Received
-        ensures { λ t. ⌜ t ≡ receiving self held (now (input .entry)) ⌝ }
-    {
-        let received = self.received;
-        put_header(&mut self.header, received, input);
-        let header = self.header;
-        let t = take(header, self.sum, received, &mut self.hold, held, input);
-        self.sum = t.sum;
-        self.received = t.received;
-        Received {
-            taken: t.taken,
-            complete: t.complete,
-            right: t.right,
-            receiver: self,
-        }
     }
 }

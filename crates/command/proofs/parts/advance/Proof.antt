@@ -23,8 +23,8 @@ use Rattle.command.proofs.parts.advance.Reads as reads
 use Rattle.command.proofs.parts.advance.Lts as lts
 use Rattle.command.proofs.parts.settle.Reads as settle-reads
 use Rattle.judging.proofs.transfer.TransferState.held.Reads as held-reads
-use Rattle.packet.proofs.put_header.Reads as put-header-reads
-use Rattle.packet.proofs.take.Reads as take-reads
+use Rattle.taking.proofs.put_header.Reads as put-header-reads
+use Rattle.taking.proofs.take.Reads as take-reads
 
 -- A call that is not refused, t being what the receiver took.
 module _

@@ -6,18 +6,18 @@ use native.Mathlib.Omega.{arith}
 use denote.Ref.{now}
 use lib.ListN.{length}
 use lib.Seq.{length-take-le}
 use Rattle.packet.specs.Taking.{before}
 use Rattle.packet.proofs.Lent.{waits-from, completes-from, kept-from}
 use borrow.Author.Needs.{needs}
-use Rattle.packet.proofs.taking.take.Statement.{statement}
-use Rattle.packet.proofs.taking.take.Tie as tie
-use Rattle.packet.proofs.taking.take.Reads as reads
-use Rattle.packet.proofs.taking.take.Lts as lts
-use Rattle.packet.proofs.number.word.Reads as word-reads
-use Rattle.packet.proofs.run.keep.Reads as keep-reads
-use Rattle.packet.proofs.run.least.Reads as least-reads
-use Rattle.packet.proofs.run.less.Reads as less-reads
-use Rattle.packet.proofs.run.sum_with.Reads as sum-with-reads
+use Rattle.taking.proofs.taking.take.Statement.{statement}
+use Rattle.taking.proofs.taking.take.Tie as tie
+use Rattle.taking.proofs.taking.take.Reads as reads
+use Rattle.taking.proofs.taking.take.Lts as lts
+use Rattle.packet.proofs.word.Reads as word-reads
+use Rattle.taking.proofs.run.keep.Reads as keep-reads
+use Rattle.taking.proofs.run.least.Reads as least-reads
+use Rattle.taking.proofs.run.less.Reads as less-reads
+use Rattle.taking.proofs.run.sum_with.Reads as sum-with-reads
 
 array-read-word : tie.Need-array-read-word
 array-read-word c = search needs
@@ -37,24 +37,19 @@ less-requires c κs = search needs
 least-requires : tie.Need-least-requires
 least-requires c κs = search needs
 
-slice-aggregate-sum-with : tie.Need-slice-aggregate-sum-with
-slice-aggregate-sum-with c =
+slice-aggregate-b : tie.Need-slice-aggregate-b
+slice-aggregate-b c =
     let k = c .before in
     sym (length-take-le (k .least .result) (k .before .before .before .before .args .input .now) (omega (arith, k .least .ensures)))
 
 sum-with-requires : tie.Need-sum-with-requires
 sum-with-requires c κs = search needs
 
-slice-aggregate-keep : tie.Need-slice-aggregate-keep
-slice-aggregate-keep c =
-    let k = c .before .before .before .before in
-    sym (length-take-le (k .least .result) (k .before .before .before .before .args .input .now) (omega (arith, k .least .ensures)))
-
 keep-requires : tie.Need-keep-requires
 keep-requires c κs = search needs
 
-add-t26 : tie.Need-add-t26
-add-t26 c = search needs
+add-t24 : tie.Need-add-t24
+add-t24 c = search needs
 
 -- the bytes before the checksum, and those of them that the input has
 wanted : (c : tie.After-less) → c .less .result ≡ before (c .before .before .before .args .t1) (c .before .before .before .args .received)
@@ -69,24 +64,24 @@ count c = let a = c .before .before .before .before .args in c .least .ensures �
 returns : tie.Need-returns
 returns c =
     let w = c .before in
-    let k = w .before .before .before .before .before in
+    let k = w .before .before .before .before in
     let a = k .before .before .before .before .args in (
-      waits-from (a .t1) (a .sum) (a .received) (now (a .input)) (count k) (w .before .before .before .sum-with .ensures) (omega (arith, wanted (k .before), c .if1 .taken)),
+      waits-from (a .t1) (a .sum) (a .received) (now (a .input)) (count k) (w .before .before .sum-with .ensures) (omega (arith, wanted (k .before), c .if1 .taken)),
       w .keep .ensures ∙ kept-from (a .t1) (a .sum) (a .received) (now (a .input)) (count k) (now (a .hold)) (a .held),
     )
 
-add-t11 : tie.Need-add-t11
-add-t11 c = search needs
+add-t12 : tie.Need-add-t12
+add-t12 c = search needs
 
-shared-slice-read-t14 : tie.Need-shared-slice-read-t14
-shared-slice-read-t14 c = search needs
+shared-slice-read-t15 : tie.Need-shared-slice-read-t15
+shared-slice-read-t15 c = search needs
 
 returns-2 : tie.Need-returns-2
 returns-2 c =
     let w = c .before .before in
-    let k = w .before .before .before .before .before in
+    let k = w .before .before .before .before in
     let a = k .before .before .before .before .args in (
-      completes-from (a .t1) (a .sum) (a .received) (now (a .input)) (count k) (wanted (k .before)) (w .before .before .before .sum-with .ensures) (omega (arith, wanted (k .before), c .before .if1 .left)),
+      completes-from (a .t1) (a .sum) (a .received) (now (a .input)) (count k) (wanted (k .before)) (w .before .before .sum-with .ensures) (omega (arith, wanted (k .before), c .before .if1 .left)),
       w .keep .ensures ∙ kept-from (a .t1) (a .sum) (a .received) (now (a .input)) (count k) (now (a .hold)) (a .held),
     )
 
@@ -100,12 +95,11 @@ take-spec =
     add-less
     less-requires
     least-requires
-    slice-aggregate-sum-with
+    slice-aggregate-b
     sum-with-requires
-    slice-aggregate-keep
     keep-requires
-    add-t26
+    add-t24
     returns
-    add-t11
-    shared-slice-read-t14
+    add-t12
+    shared-slice-read-t15
     returns-2)

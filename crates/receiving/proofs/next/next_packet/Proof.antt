@@ -2,13 +2,13 @@
 use mathlib.Core.Path.{_≡_, sym}
 use native.Mathlib.Omega.{arith}
 use lib.ListN.{length, drop, length-drop}
 use Rattle.packet.proofs.Framing.{no-header, no-end, has-packet, next-none, next-some, size-at}
 use borrow.Author.Needs.{needs}
-use Rattle.packet.proofs.next.next_packet.Statement.{statement}
-use Rattle.packet.proofs.next.next_packet.Tie as tie
-use Rattle.packet.proofs.next.next_packet.Reads as reads
-use Rattle.packet.proofs.next.next_packet.Lts as lts
-use Rattle.packet.proofs.number.word.Reads as word-reads
+use Rattle.receiving.proofs.next.next_packet.Statement.{statement}
+use Rattle.receiving.proofs.next.next_packet.Tie as tie
+use Rattle.receiving.proofs.next.next_packet.Reads as reads
+use Rattle.receiving.proofs.next.next_packet.Lts as lts
+use Rattle.packet.proofs.word.Reads as word-reads
 
 returns : tie.Need-returns
 returns c =

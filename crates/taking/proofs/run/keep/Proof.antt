@@ -6,15 +6,15 @@ use native.Mathlib.Omega.{arith}
 use denote.Ref.{now}
 use lib.ListN.{length, take, drop, length-drop}
 use lib.Seq.{sets, take-all}
 use Rattle.packet.proofs.Lent.{payload-kept}
 use borrow.Author.Needs.{needs}
-use Rattle.packet.proofs.run.keep.Statement.{statement}
-use Rattle.packet.proofs.run.keep.Tie as tie
-use Rattle.packet.proofs.run.keep.Reads as reads
-use Rattle.packet.proofs.run.keep.Lts as lts
-use Rattle.packet.proofs.run.least.Reads as least-reads
-use Rattle.packet.proofs.run.less.Reads as less-reads
-use Rattle.packet.proofs.run.store.Reads as store-reads
+use Rattle.taking.proofs.run.keep.Statement.{statement}
+use Rattle.taking.proofs.run.keep.Tie as tie
+use Rattle.taking.proofs.run.keep.Reads as reads
+use Rattle.taking.proofs.run.keep.Lts as lts
+use Rattle.taking.proofs.run.least.Reads as least-reads
+use Rattle.taking.proofs.run.less.Reads as less-reads
+use Rattle.taking.proofs.run.store.Reads as store-reads
 
 less-requires : tie.Need-less-requires
 less-requires c κs = search needs

@@ -3,10 +3,10 @@ ghost use mathlib.Core.Path.{_≡_};
 ghost use Prim.Native.Nat.{_+_, _-_, _%_, min};
 ghost use lib.ListN.{length, drop};
 ghost use lib.Seq.{sets};
 ghost use Rattle.packet.specs.Packet.{sum as sumOf};
 
 // How many payload bytes the hold has room for.
-pub const HOLD: usize = 1024;
+pub(crate) const HOLD: usize = 1024;
 
 // a less b, and nothing where b is more.
 pub(crate) fn less(a: usize, b: usize) -> usize

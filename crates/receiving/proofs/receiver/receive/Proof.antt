@@ -1,15 +1,15 @@
--- `Receiver::receive` meets its contract.
+-- `receive` meets its contract.
 use mathlib.Core.Path.{_≡_, refl}
 use denote.Ref.{now}
 use lib.ListN.{length}
 use Rattle.packet.proofs.Lent.{taken-is}
 use borrow.Author.Needs.{needs}
-use Rattle.packet.proofs.receiver.Receiver.receive.Statement.{statement}
-use Rattle.packet.proofs.receiver.Receiver.receive.Tie as tie
-use Rattle.packet.proofs.receiver.Receiver.receive.Reads as reads
-use Rattle.packet.proofs.receiver.Receiver.receive.Lts as lts
-use Rattle.packet.proofs.taking.put_header.Reads as put-header-reads
-use Rattle.packet.proofs.taking.take.Reads as take-reads
+use Rattle.receiving.proofs.receiver.receive.Statement.{statement}
+use Rattle.receiving.proofs.receiver.receive.Tie as tie
+use Rattle.receiving.proofs.receiver.receive.Reads as reads
+use Rattle.receiving.proofs.receiver.receive.Lts as lts
+use Rattle.taking.proofs.put_header.Reads as put-header-reads
+use Rattle.taking.proofs.take.Reads as take-reads
 
 put-header-requires : tie.Need-put-header-requires
 put-header-requires c κs = search needs

@@ -4,13 +4,13 @@ use mathlib.Core.List.{List}
 use Prim.Native.Nat.{ℕ, _≤_, _<_, _-_, _+_, _%_}
 use native.Mathlib.Omega.{arith}
 use lib.ListN.{length, drop, drop-of-length-le}
 use Rattle.packet.specs.Packet.{sum as sumOf}
 use Rattle.packet.proofs.Lists.{sum-more}
 use borrow.Author.Needs.{needs}
-use Rattle.packet.proofs.run.sum_with.Statement.{statement}
-use Rattle.packet.proofs.run.sum_with.Tie as tie
-use Rattle.packet.proofs.run.sum_with.Reads as reads
-use Rattle.packet.proofs.run.sum_with.Lts as lts
+use Rattle.taking.proofs.run.sum_with.Statement.{statement}
+use Rattle.taking.proofs.run.sum_with.Tie as tie
+use Rattle.taking.proofs.run.sum_with.Reads as reads
+use Rattle.taking.proofs.run.sum_with.Lts as lts
 use Rattle.std.proofs.num.wrapping_add_u8.Reads as wrapping-add-u8-reads
 
 abbrev Inv-loop : tie.InvT-loop

@@ -9,14 +9,14 @@ use lib.Dec.{leb}
 use lib.Seq.{sets}
 use borrow.Author.Tests.{leb-true, leb-false}
 use borrow.Author.Needs.{needs}
 use Rattle.packet.proofs.Cases.{bool-cases}
 use Rattle.packet.proofs.Lists.{sets-more, sets-past}
-use Rattle.packet.proofs.run.store.Statement.{statement}
-use Rattle.packet.proofs.run.store.Tie as tie
-use Rattle.packet.proofs.run.store.Reads as reads
-use Rattle.packet.proofs.run.store.Lts as lts
-use Rattle.packet.proofs.run.least.Reads as least-reads
-use Rattle.packet.proofs.run.less.Reads as less-reads
+use Rattle.taking.proofs.run.store.Statement.{statement}
+use Rattle.taking.proofs.run.store.Tie as tie
+use Rattle.taking.proofs.run.store.Reads as reads
+use Rattle.taking.proofs.run.store.Lts as lts
+use Rattle.taking.proofs.run.least.Reads as least-reads
+use Rattle.taking.proofs.run.less.Reads as less-reads
 
 abbrev Inv-loop : tie.InvT-loop
 Inv-loop into₀ at b n i₀ into i =
