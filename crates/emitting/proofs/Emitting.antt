@@ -15,9 +15,9 @@ use Rattle.settings.specs.declared.settings.Settings.{Settings}
 use Rattle.settings.specs.declared.command.Command.{Command}
 use Rattle.settings.proofs.Commands.{size-small}
 use Rattle.settings.proofs.Keeping.{length-values}
-use Rattle.values.specs.Data.{contents}
+use Rattle.value_data.specs.Data.{contents}
 use Rattle.values.specs.Values.{dataOf}
-use Rattle.values.specs.declared.data.Data.{Data}
+use Rattle.value_data.specs.declared.data.Data.{Data}
 use Rattle.values.proofs.Layouts.{length-join}
 use Rattle.judging.specs.Judging.{listIf, codesOf, responseData}
 use Rattle.judging.specs.declared.judge.Codes.{Codes}

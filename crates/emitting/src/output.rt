@@ -1,5 +1,5 @@
 // A packet of a command's data, written to a lent output.
-use values::Data;
+use value_data::Data;
 use writer::Written;
 ghost use mathlib.Core.Path.{_≡_};
 ghost use Prim.Native.Nat.{_≤_};
@@ -7,7 +7,7 @@ ghost use lib.ListN.{length, take};
 ghost use Rattle.packet.specs.Packet.{whole};
 ghost use Rattle.writer.specs.Writing.{outputAfter};
 ghost use Rattle.emitting.specs.Emitting.{lengthIn};
-ghost use Rattle.values.specs.Data.{contents};
+ghost use Rattle.value_data.specs.Data.{contents};
 
 // How many bytes of the data count, whatever its length says.
 fn counted(d: Data) -> usize

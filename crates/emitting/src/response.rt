@@ -3,7 +3,8 @@ use crate::output::emit;
 use judging::Codes;
 use judging::Judgement;
 use settings::Settings;
-use values::Data;
+use value_data::Data;
+use value_data::data_of;
 ghost use mathlib.Core.Bool.{cond};
 ghost use mathlib.Core.List.{[], _∷_, _++_};
 ghost use mathlib.Core.Path.{_≡_};
@@ -13,7 +14,7 @@ ghost use Rattle.packet.specs.Packet.{whole};
 ghost use Rattle.writer.specs.Writing.{outputAfter};
 ghost use Rattle.emitting.specs.Emitting.{lengthIn};
 ghost use Rattle.judging.specs.Judging.{codesOf, responseType, responseData};
-ghost use Rattle.values.specs.Data.{Holds, contents};
+ghost use Rattle.value_data.specs.Data.{Holds, contents};
 
 // The data with one code more, where its fault holds.
 fn with_code(d: Data, holds: bool, code: u8) -> Data
@@ -61,7 +62,7 @@ fn response_data(s: Settings, j: Judgement) -> Data
         Judgement::Refuse(k) => codes_data(k),
         Judgement::Hold(_) => Data::EMPTY,
         Judgement::Write(_) => Data::EMPTY,
-        Judgement::Read(c) => effects::value_of(s, c).data(),
+        Judgement::Read(c) => data_of(effects::value_of(s, c)),
     }
 }
 

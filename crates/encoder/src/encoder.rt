@@ -3,6 +3,7 @@ use emitting::emit;
 use rules::settings_in_rule;
 use settings::Command;
 use settings::Settings;
+use value_data::data_of;
 use values::Value;
 use write_rules::allowed;
 ghost use mathlib.Core.Path.{_≡_};
@@ -29,7 +30,7 @@ fn put(out: &mut [u8], v: Value) -> usize
     ensures { λ r. ⌜ (r ≡ length (encoded v)) × (now (out .exit) ≡ written (encoded v) (now (out .entry))) ⌝ }
 {
     let code = v.command().code();
-    emit(out, packet::HOST_WRITE, code.cmd1, code.cmd2, v.data())
+    emit(out, packet::HOST_WRITE, code.cmd1, code.cmd2, data_of(v))
 }
 
 // One whole write packet. Run 1 is allowed here.

@@ -4,8 +4,8 @@ use judging::Codes;
 use judging::Judgement;
 use settings::Command;
 use settings::Found;
+use value_parse::parse;
 use values::Parsed;
-use values::Value;
 use write_rules::allowed;
 use write_rules::blocked;
 ghost use mathlib.Core.Path.{_≡_};
@@ -16,7 +16,7 @@ ghost use Rattle.judging.specs.Judging.{judgeData as judgeDataOf, judgeRead as 
 fn judge_write(c: Command, mode: u8, d: &[u8]) -> Judgement
     ensures { λ r. ⌜ r ≡ judgeWriteOf c mode (now (d .entry)) ⌝ }
 {
-    let Parsed::Values(v) = Value::parse(c, d) else {
+    let Parsed::Values(v) = parse(c, d) else {
         return Judgement::Refuse(Codes::SIZE);
     };
     if !allowed(v) {

@@ -1,4 +1,3 @@
--- The laws of a command's values, for the proofs here and for the layers above.
-pub mod Places
+-- The laws of a command's values, for the layers above.
 pub mod Layouts
 pub mod Valued

@@ -1,4 +1,3 @@
 -- What the contracts of a command's values cite.
 pub mod Fields
 pub mod Values
-pub mod Data

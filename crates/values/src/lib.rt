@@ -1,11 +1,8 @@
-// A command with its values: read from the data of a packet, and made into data.
+// A command with its values, and the values that reading a command's data finds.
 //
-// The contracts cite `specs/`: `Fields` (numbers of several bytes, one after the other), `Values`
-// (a command with its values) and `Data` (the bytes of a packet's data).
-mod data;
-mod number;
+// `specs/` has what the contracts here and in the crates `value_parse` and `value_data` cite:
+// `Fields` (numbers of several bytes, one after the other) and `Values` (a command with its values).
 mod value;
 
-pub use data::Data;
 pub use value::Parsed;
 pub use value::Value;

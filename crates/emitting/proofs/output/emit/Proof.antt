@@ -8,7 +8,7 @@ use denote.Ref.{now}
 use lib.ListN.{length, take}
 use lib.Seq.{length-take-le}
 use Rattle.packet.specs.Packet.{whole}
-use Rattle.values.specs.Data.{contents}
+use Rattle.value_data.specs.Data.{contents}
 use Rattle.writer.specs.Writing.{fits, answerTo, outputAfter}
 use Rattle.writer.specs.declared.write.Written.the-variants.{Length, NoRoom}
 use Rattle.emitting.specs.Emitting.{lengthIn}

@@ -27,8 +27,8 @@ enum-known-j-2 c = search needs
 value-of-requires : tie.Need-value-of-requires
 value-of-requires c κs = search needs
 
-data-requires : tie.Need-data-requires
-data-requires c κs = search needs
+data-of-requires : tie.Need-data-of-requires
+data-of-requires c κs = search needs
 
 returns : tie.Need-returns
 returns c = rw (c .before .before .j .given .1) (c .codes-data .ensures)
@@ -40,7 +40,7 @@ returns-3 : tie.Need-returns-3
 returns-3 c = rw (c .enum-told2 .given .1) record { bytes = refl; room = omega arith }
 
 returns-4 : tie.Need-returns-4
-returns-4 c = rw (c .before .before .before .j2 .given .1, ← data-from, ← c .before .value-of .ensures) (c .«data» .ensures)
+returns-4 c = rw (c .before .before .before .j2 .given .1, ← data-from, ← c .before .value-of .ensures) (c .data-of .ensures)
 
 pub response-data-spec : {M : Type 1} → statement M
 response-data-spec =
@@ -52,7 +52,7 @@ response-data-spec =
     enum-told-2
     enum-known-j-2
     value-of-requires
-    data-requires
+    data-of-requires
     returns
     returns-2
     returns-3

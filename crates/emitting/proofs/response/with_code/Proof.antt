@@ -5,7 +5,7 @@ use native.Mathlib.Numerals.{add-one}
 use native.Mathlib.Omega.{arith}
 use lib.ListN.{length}
 use lib.Seq.{take-suc-set}
-use Rattle.values.specs.Data.{contents}
+use Rattle.value_data.specs.Data.{contents}
 use borrow.Author.Needs.{needs}
 use Rattle.emitting.proofs.response.with_code.Statement.{statement}
 use Rattle.emitting.proofs.response.with_code.Tie as tie

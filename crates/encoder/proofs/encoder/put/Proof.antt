@@ -11,7 +11,7 @@ use Rattle.settings.specs.Table.{cmd1For, cmd2For}
 use Rattle.values.specs.Values.{commandIn, dataIn}
 use Rattle.settings.specs.declared.command.Command.{Command}
 use Rattle.values.specs.declared.value.Value.{Value}
-use Rattle.values.specs.Data.{contents}
+use Rattle.value_data.specs.Data.{contents}
 use Rattle.emitting.proofs.Emitting.{emitted-length, emitted, contents-short}
 use Rattle.encoder.proofs.Writes.{packet-eq}
 use borrow.Author.Needs.{needs}
@@ -31,8 +31,8 @@ command-requires c κs = search needs
 code-requires : tie.Need-code-requires
 code-requires c κs = search needs
 
-data-requires : tie.Need-data-requires
-data-requires c κs = search needs
+data-of-requires : tie.Need-data-of-requires
+data-of-requires c κs = search needs
 
 emit-requires : tie.Need-emit-requires
 emit-requires c κs = search needs
@@ -47,15 +47,15 @@ returns c =
     let k = d .before .before in
     let s = k .before .before .before in
     let a = s .args in
-    let p = packet-of (a .v) (k .before .command .ensures) (k .code .ensures .0) (k .code .ensures .1) (d .«data» .ensures .bytes) in
-    let n = contents-short (d .«data» .result) (d .«data» .ensures .room) in (
-      e .emit .ensures .0 ∙ emitted-length hostWrite (k .code .result .cmd1) (k .code .result .cmd2) (contents (d .«data» .result)) (now (a .out)) n (s .pre) ∙ ap length p,
+    let p = packet-of (a .v) (k .before .command .ensures) (k .code .ensures .0) (k .code .ensures .1) (d .data-of .ensures .bytes) in
+    let n = contents-short (d .data-of .result) (d .data-of .ensures .room) in (
+      e .emit .ensures .0 ∙ emitted-length hostWrite (k .code .result .cmd1) (k .code .result .cmd2) (contents (d .data-of .result)) (now (a .out)) n (s .pre) ∙ ap length p,
       e .emit .ensures .1
-          ∙ emitted hostWrite (k .code .result .cmd1) (k .code .result .cmd2) (contents (d .«data» .result)) (now (a .out)) n (s .pre)
+          ∙ emitted hostWrite (k .code .result .cmd1) (k .code .result .cmd2) (contents (d .data-of .result)) (now (a .out)) n (s .pre)
           ∙ ap (λ (b : List ℕ). written b (now (a .out))) p,
     )
 
 pub put-spec : {M : Type 1} → statement M
 put-spec =
     tie.close
-    (tie.spec command-requires code-requires data-requires emit-requires same-length returns)
+    (tie.spec command-requires code-requires data-of-requires emit-requires same-length returns)

@@ -1,0 +1,36 @@
+-- `colour_data` meets its contract: the fields stand one behind the other.
+use mathlib.Core.List.{append-nil, append-assoc}
+use native.Mathlib.Omega.{arith}
+use Rattle.values.specs.Fields.{joinAll}
+use borrow.Author.Needs.{needs}
+use Rattle.value_data.proofs.value.colour_data.Statement.{statement}
+use Rattle.value_data.proofs.value.colour_data.Tie as tie
+use Rattle.value_data.proofs.value.colour_data.Reads as reads
+use Rattle.value_data.proofs.value.colour_data.Lts as lts
+use Rattle.value_data.proofs.data.Data.byte.Reads as byte-reads
+
+byte-requires : tie.Need-byte-requires
+byte-requires c κs = search needs
+
+byte-requires-2 : tie.Need-byte-requires-2
+byte-requires-2 c κs = search needs
+
+byte-requires-3 : tie.Need-byte-requires-3
+byte-requires-3 c κs = search needs
+
+byte-requires-4 : tie.Need-byte-requires-4
+byte-requires-4 c κs = search needs
+
+returns : tie.Need-returns
+unfolding joinAll
+returns c =
+    let d = c .before .before .before in
+    record {
+      bytes =
+          simp (c .byte4 .ensures .0, c .before .byte3 .ensures .0, c .before .before .byte2 .ensures .0, d .byte .ensures .0, append-assoc, append-nil);
+      room = omega arith;
+    }
+
+pub colour-data-spec : {M : Type 1} → statement M
+colour-data-spec =
+    tie.close (tie.spec byte-requires byte-requires-2 byte-requires-3 byte-requires-4 returns)

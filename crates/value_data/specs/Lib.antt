@@ -1,0 +1,2 @@
+-- What the contracts of a packet's data cite.
+pub mod Data
