@@ -1,21 +1,21 @@
 -- The receive call: when it refuses, and what it answers and leaves.
 use Prim.Native.Nat.{ℕ, _+_}
-use mathlib.Core.Bool.{Bool, true, cond, _&&_}
+use mathlib.Core.Bool.{Bool, true, cond}
 use mathlib.Core.List.{List}
 use lib.Dec.{ltb}
 use lib.ListN.{length}
 use Rattle.packet.specs.Packet.{payloadLength}
-use Rattle.packet.specs.Receiving.{fresh as freshReceiver, receiving}
+use Rattle.packet.specs.Receiving.{receiving}
 use Rattle.writer.specs.Writing.{written}
 use Rattle.packet.specs.declared.receiver.Receiver.{Receiver}
 use Rattle.packet.specs.declared.receiver.Received.{Received}
-use Rattle.settings.specs.Settings.{factory, settingsInRule}
 use Rattle.judging.specs.Judging.{Arrived, judge, settingsAfter, response}
-use Rattle.judging.specs.Held.{noTransfer, heldIn, transferIn, transferInRule, packetIn, transferStateAfter}
+use Rattle.judging.specs.Held.{heldIn, transferIn, packetIn, transferStateAfter}
+use Rattle.controller.specs.Controller.{inRule}
 use Rattle.settings.specs.declared.settings.Settings.{Settings}
 use Rattle.judging.specs.declared.judge.Judgement.{Judgement}
 use Rattle.judging.specs.declared.transfer.TransferState.{TransferState}
-use Rattle.command.specs.declared.controller.Controller.{Controller}
+use Rattle.controller.specs.declared.controller.Controller.{Controller}
 use Rattle.command.specs.declared.endpoint.Answer.{Answer}
 use Rattle.command.specs.declared.endpoint.Answer.the-variants.{Waiting, Answered, ShortOutput, OutOfRule}
 
@@ -30,29 +30,6 @@ outcomeOf ShortOutput = Refuses 1
 outcomeOf OutOfRule = Refuses 3
 outcomeOf (Waiting n) = Waits n
 outcomeOf (Answered n m) = Answers n m
-
--- The controller: the settings, an open transfer or none, and the receiver, in whose hold the held bytes stand first.
-
--- a fresh controller: factory values, nothing half received and no transfer open
-abbrev pub fresh : Controller
-fresh = record { settings = factory; transfer = noTransfer; receiver = freshReceiver }
-
--- a controller of these parts
-abbrev pub controllerOf : Settings → TransferState → List ℕ → ℕ → ℕ → List ℕ → Controller
-controllerOf s t header sum received hold =
-    record { settings = s; transfer = t; receiver = record { header = header; sum = sum; received = received; hold = hold } }
-
--- a half-received packet that has not all its bytes yet
-unfoldable pub packetInRule : List ℕ → ℕ → Bool
-packetInRule header received = ltb received (7 + payloadLength header)
-
--- Refusal 3: a setting not allowed, run 1 outside mode 4, over 1,024 held bytes, a transfer open for a command not in the table,
--- or a half-received packet that already has all its bytes.
-abbrev pub partsInRule : Settings → TransferState → List ℕ → ℕ → Bool
-partsInRule s t header received = settingsInRule s && transferInRule t && packetInRule header received
-
-unfoldable pub inRule : Controller → Bool
-inRule c = partsInRule (c .settings) (c .transfer) (c .receiver .header) (c .receiver .received)
 
 -- how a complete packet is judged, by its header, whether its checksum was right, and the hold; and what it draws
 abbrev pub judgedOn : Settings → TransferState → List ℕ → Bool → List ℕ → Judgement

@@ -1,6 +1,6 @@
 // The receive call: host bytes in, a response out, the controller handed back.
-use crate::controller::Controller;
 use crate::parts::serve;
+use controller::Controller;
 use packet::Receiver;
 ghost use mathlib.Core.Path.{_≡_};
 ghost use Rattle.command.specs.Calls.{outcomeOf, receiveCall};

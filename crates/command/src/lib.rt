@@ -2,7 +2,6 @@
 //
 // Host bytes go to `receive`, which takes the controller by value and hands it back. How a packet is
 // judged is crate `judging`, what that changes crate `carrying`. The contracts cite `specs/Calls`.
-mod controller;
 mod endpoint;
 mod judge;
 mod parts;

@@ -1,11 +1,11 @@
 // The receive call with the controller's parts by themselves and its hold lent, so that a caller that
 // plays many packets copies no hold.
-use crate::controller::in_rule;
 use crate::endpoint::Answer;
 use crate::judge::judge;
 use carrying::respond;
 use carrying::settings_after;
 use carrying::transfer_after;
+use controller::in_rule;
 use judging::TransferState;
 use packet::put_header;
 use packet::take;
@@ -18,7 +18,8 @@ ghost use Rattle.packet.specs.Packet.{payloadLength};
 ghost use Rattle.writer.specs.Writing.{written};
 ghost use Rattle.judging.specs.Held.{heldIn, transferInRule, transferStateAfter};
 ghost use Rattle.judging.specs.Judging.{settingsAfter};
-ghost use Rattle.command.specs.Calls.{controllerOf, outcomeOf, partsInRule, receiveCall, judgedOn, drawnOn};
+ghost use Rattle.controller.specs.Controller.{controllerOf, partsInRule};
+ghost use Rattle.command.specs.Calls.{outcomeOf, receiveCall, judgedOn, drawnOn};
 
 // The controller's parts beside its hold, and the answer.
 pub struct Served {

@@ -5,8 +5,8 @@ use mathlib.Core.List.{List}
 use Rattle.settings.specs.Settings.{settingsInRule}
 use Rattle.settings.specs.declared.settings.Settings.{Settings}
 use Rattle.judging.specs.Playing.{play, clean}
-use Rattle.command.specs.Calls.{controllerOf}
-use Rattle.command.specs.declared.controller.Controller.{Controller}
+use Rattle.controller.specs.Controller.{controllerOf}
+use Rattle.controller.specs.declared.controller.Controller.{Controller}
 use Rattle.command.specs.declared.parts.Served.{Served}
 
 -- a head, of its parts and its hold

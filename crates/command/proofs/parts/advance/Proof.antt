@@ -13,9 +13,10 @@ use Rattle.packet.proofs.Lent.{together, taken-is}
 use Rattle.settings.specs.declared.settings.Settings.{Settings}
 use Rattle.judging.specs.Held.{heldIn}
 use Rattle.judging.specs.declared.transfer.TransferState.{TransferState}
-use Rattle.command.specs.Calls.{Answers, controllerOf, inRule, judgedIn, responseIn, completeBy, After, waiting, answered, receiveCall}
-use Rattle.command.specs.declared.controller.Controller.{Controller}
-use Rattle.command.proofs.Serving.{rule-parts}
+use Rattle.controller.specs.Controller.{controllerOf, inRule}
+use Rattle.command.specs.Calls.{Answers, judgedIn, responseIn, completeBy, After, waiting, answered, receiveCall}
+use Rattle.controller.specs.declared.controller.Controller.{Controller}
+use Rattle.controller.proofs.Rule.{rule-parts}
 use borrow.Author.Needs.{needs}
 use Rattle.command.proofs.parts.advance.Statement.{statement}
 use Rattle.command.proofs.parts.advance.Tie as tie

@@ -2,12 +2,13 @@
 use mathlib.Core.Path.{_≡_, refl, sym, _∙_}
 use borrow.Author.Tests.{lt-ltb, le-ltb, not-true, not-false}
 use borrow.Author.Needs.{needs}
-use Rattle.command.specs.Calls.{inRule, receiveCall}
+use Rattle.controller.specs.Controller.{inRule}
+use Rattle.command.specs.Calls.{receiveCall}
 use Rattle.command.proofs.parts.serve.Statement.{statement}
 use Rattle.command.proofs.parts.serve.Tie as tie
 use Rattle.command.proofs.parts.serve.Reads as reads
 use Rattle.command.proofs.parts.serve.Lts as lts
-use Rattle.command.proofs.controller.in_rule.Reads as in-rule-reads
+use Rattle.controller.proofs.in_rule.Reads as in-rule-reads
 use Rattle.command.proofs.parts.advance.Reads as advance-reads
 
 in-rule-requires : tie.Need-in-rule-requires

@@ -46,12 +46,12 @@ use denote.Triple.Walked.{says, Stays, stay-ref, stay-none-slice, gave-slice, wa
 use denote.Exit.{yes}
 use Rattle.command.specs.Calls.{outcomeOf, receiveCall}
 use Rattle.head.specs.Answers.{receiptOf}
-use Rattle.command.specs.declared.controller.Controller.{Controller}
+use Rattle.controller.specs.declared.controller.Controller.{Controller}
 use Rattle.command.specs.declared.endpoint.Answer.{Answer}
 use Rattle.command.specs.declared.endpoint.Step.{Step}
 use Rattle.head.specs.declared.receipt.Receipt.{Receipt}
-use Rattle.command.proofs.controller.Controller as T
-use Rattle.command.proofs.controller.Controller.Laws as T′
+use Rattle.controller.proofs.controller.Controller as T
+use Rattle.controller.proofs.controller.Controller.Laws as T′
 use Rattle.command.proofs.endpoint.Step as S
 use Rattle.command.proofs.endpoint.Step.Laws as S′
 use Rattle.command.proofs.endpoint.Answer as N

@@ -19,7 +19,7 @@ use Rattle.settings.specs.declared.settings.Settings.{Settings}
 use Rattle.judging.specs.Playing.{play, clean}
 use Rattle.judging.specs.Held.{noTransfer}
 use Rattle.command.specs.Calls.{Answers, outcomeOf, After, receiveCall}
-use Rattle.command.specs.declared.controller.Controller.{Controller}
+use Rattle.controller.specs.declared.controller.Controller.{Controller}
 use Rattle.command.specs.declared.endpoint.Answer.{Answer}
 use Rattle.command.specs.declared.endpoint.Answer.the-variants.{Waiting, Answered, ShortOutput, OutOfRule}
 use Rattle.command.proofs.endpoint.Answer.{the-type}

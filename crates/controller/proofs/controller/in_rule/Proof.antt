@@ -1,12 +1,13 @@
 -- `in_rule` meets its contract.
-use Rattle.command.specs.Calls.{partsInRule}
+use mathlib.Core.Path.{ap₂}
+use mathlib.Core.Bool.{_&&_}
 use borrow.Author.Needs.{needs}
-use Rattle.command.proofs.controller.in_rule.Statement.{statement}
-use Rattle.command.proofs.controller.in_rule.Tie as tie
-use Rattle.command.proofs.controller.in_rule.Reads as reads
-use Rattle.command.proofs.controller.in_rule.Lts as lts
+use Rattle.controller.proofs.controller.in_rule.Statement.{statement}
+use Rattle.controller.proofs.controller.in_rule.Tie as tie
+use Rattle.controller.proofs.controller.in_rule.Reads as reads
+use Rattle.controller.proofs.controller.in_rule.Lts as lts
 use Rattle.judging.proofs.transfer.TransferState.in_rule.Reads as transfer-in-rule-reads
-use Rattle.command.proofs.controller.packet_in_rule.Reads as packet-in-rule-reads
+use Rattle.controller.proofs.controller.packet_in_rule.Reads as packet-in-rule-reads
 
 settings-in-rule-requires : tie.Need-settings-in-rule-requires
 settings-in-rule-requires c κs = search needs
@@ -18,8 +19,7 @@ packet-in-rule-requires : tie.Need-packet-in-rule-requires
 packet-in-rule-requires c κs = search needs
 
 returns : tie.Need-returns
-unfolding partsInRule
-returns c = rw (c .before .before .settings-in-rule .ensures, c .before .in-rule .ensures, c .packet-in-rule .ensures)
+returns c = ap₂ _&&_ (ap₂ _&&_ (c .before .before .settings-in-rule .ensures) (c .before .in-rule .ensures)) (c .packet-in-rule .ensures)
 
 pub in-rule-spec : {M : Type 1} → statement M
 in-rule-spec =

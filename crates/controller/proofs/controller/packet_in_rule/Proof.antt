@@ -1,10 +1,10 @@
 -- `packet_in_rule` meets its contract.
-use Rattle.command.specs.Calls.{packetInRule}
+use Rattle.controller.specs.Controller.{packetInRule}
 use borrow.Author.Needs.{needs}
-use Rattle.command.proofs.controller.packet_in_rule.Statement.{statement}
-use Rattle.command.proofs.controller.packet_in_rule.Tie as tie
-use Rattle.command.proofs.controller.packet_in_rule.Reads as reads
-use Rattle.command.proofs.controller.packet_in_rule.Lts as lts
+use Rattle.controller.proofs.controller.packet_in_rule.Statement.{statement}
+use Rattle.controller.proofs.controller.packet_in_rule.Tie as tie
+use Rattle.controller.proofs.controller.packet_in_rule.Reads as reads
+use Rattle.controller.proofs.controller.packet_in_rule.Lts as lts
 
 array-read-word : tie.Need-array-read-word
 array-read-word c = search needs

@@ -5,7 +5,7 @@ use packet::Receiver;
 use rules::settings_in_rule;
 use settings::Settings;
 ghost use mathlib.Core.Path.{_≡_};
-ghost use Rattle.command.specs.Calls.{fresh as freshOf, partsInRule, packetInRule};
+ghost use Rattle.controller.specs.Controller.{fresh as freshOf, partsInRule, packetInRule};
 
 #[repr(C)]
 pub struct Controller {
@@ -37,7 +37,7 @@ impl Controller {
 }
 
 // What refusal 3 lets pass: the parts of a controller that it looks at.
-pub(crate) fn in_rule(
+pub fn in_rule(
     settings: Settings,
     transfer: TransferState,
     header: [u8; 6],

@@ -2,10 +2,10 @@
 use mathlib.Core.Path.{refl}
 use Rattle.packet.specs.Receiving.{zeros}
 use Rattle.settings.specs.Settings.{factory}
-use Rattle.command.proofs.controller.Controller.fresh.Statement.{statement}
-use Rattle.command.proofs.controller.Controller.fresh.Tie as tie
-use Rattle.command.proofs.controller.Controller.fresh.Reads as reads
-use Rattle.command.proofs.controller.Controller.fresh.Lts as lts
+use Rattle.controller.proofs.controller.Controller.fresh.Statement.{statement}
+use Rattle.controller.proofs.controller.Controller.fresh.Tie as tie
+use Rattle.controller.proofs.controller.Controller.fresh.Reads as reads
+use Rattle.controller.proofs.controller.Controller.fresh.Lts as lts
 
 returns : tie.Need-returns
 unfolding factory zeros
