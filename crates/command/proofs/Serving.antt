@@ -22,7 +22,7 @@ use Rattle.settings.specs.Table.{cmd1For, cmd2For, commandOf, isKnown}
 use Rattle.judging.specs.Judging.{Transfer, Closed, Opened, Arrived, held, faults, anyFault, judgeData, judge, settingsAfter}
 use Rattle.judging.specs.Held.{noTransfer, heldIn, transferIn, transferInRule, packetIn, transferStateAfter}
 use Rattle.controller.specs.Controller.{packetInRule, inRule}
-use Rattle.command.specs.Calls.{Outcome, Refuses, Waits, Answers, arrivedIn, judgedIn, carriedOut, responseIn, takenBy, After, refused, waiting, answered, receiveCall}
+use Rattle.serving.specs.Calls.{Outcome, Refuses, Waits, Answers, arrivedIn, judgedIn, carriedOut, responseIn, takenBy, After, refused, waiting, answered, receiveCall}
 use Rattle.settings.specs.declared.settings.Settings.{Settings}
 use Rattle.settings.specs.declared.command.Command.{Command}
 use Rattle.settings.specs.declared.command.Found.{Found}

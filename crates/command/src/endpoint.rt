@@ -1,26 +1,10 @@
 // The receive call: host bytes in, a response out, the controller handed back.
-use crate::parts::serve;
 use controller::Controller;
 use packet::Receiver;
+use serving::Answer;
+use serving::serve;
 ghost use mathlib.Core.Path.{_≡_};
-ghost use Rattle.command.specs.Calls.{outcomeOf, receiveCall};
-
-// What a call answers.
-pub enum Answer {
-    // The input ended before a packet did; all of it was taken.
-    Waiting(usize),
-    // One packet is complete.
-    Answered {
-        // How many bytes of the input were taken.
-        taken: usize,
-        // How long the response is that stands at the output's start.
-        length: usize,
-    },
-    // Refusal 1: the output is shorter than 64 bytes.
-    ShortOutput,
-    // Refusal 3: the controller is out of rule.
-    OutOfRule,
-}
+ghost use Rattle.serving.specs.Calls.{outcomeOf, receiveCall};
 
 // An answer, and the controller afterwards.
 pub struct Step {

@@ -39,7 +39,7 @@ use Rattle.judging.specs.Judging.{
 }
 use Rattle.judging.specs.Playing.{State, judged, next, responses, after}
 use Rattle.judging.specs.Held.{heldIn, transferIn, transferInRule, packetIn, transferStateAfter}
-use Rattle.command.specs.Calls.{arrivedIn, judgedIn, carriedOut, responseIn, takenBy, After, waiting, answered, receiveCall}
+use Rattle.serving.specs.Calls.{arrivedIn, judgedIn, carriedOut, responseIn, takenBy, After, waiting, answered, receiveCall}
 use Rattle.settings.specs.declared.settings.Settings.{Settings}
 use Rattle.settings.specs.declared.command.Command.{Command}
 use Rattle.settings.specs.declared.command.Found.{Found}

@@ -38,7 +38,7 @@ use Rattle.judging.specs.Judging.{
 }
 use Rattle.judging.specs.Playing.{State, judged, next, judgements, after}
 use Rattle.controller.specs.Controller.{inRule}
-use Rattle.command.specs.Calls.{After, refused, receiveCall}
+use Rattle.serving.specs.Calls.{After, refused, receiveCall}
 use Rattle.judging.specs.declared.judge.Codes.{Codes}
 use Rattle.judging.specs.declared.judge.Judgement.{Judgement}
 use Rattle.judging.specs.declared.judge.Judgement.the-variants.{Refuse, Hold, Write, Read}

@@ -3,7 +3,7 @@ use command::Answer;
 use command::Controller;
 ghost use mathlib.Core.Path.{_≡_};
 ghost use Rattle.controller.specs.Controller.{fresh};
-ghost use Rattle.command.specs.Calls.{outcomeOf, receiveCall};
+ghost use Rattle.serving.specs.Calls.{outcomeOf, receiveCall};
 ghost use Rattle.head.specs.Answers.{receiptOf};
 
 // What a receive call answers.

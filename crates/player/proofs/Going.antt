@@ -21,7 +21,7 @@ use Rattle.judging.specs.Judging.{Transfer, Closed, isOpen, acknowledged}
 use Rattle.judging.specs.Playing.{State, from, judged, next, judgements, after, play, allAcknowledged, isNil, clean}
 use Rattle.judging.specs.Held.{noTransfer, isOpenIn, transferInRule}
 use Rattle.controller.specs.Controller.{packetInRule, inRule}
-use Rattle.command.specs.Calls.{Outcome, Waits, Answers, Refuses, After, receiveCall}
+use Rattle.serving.specs.Calls.{Outcome, Waits, Answers, Refuses, After, receiveCall}
 use Rattle.controller.specs.declared.controller.Controller.{Controller}
 use Rattle.judging.proofs.Holding.{open-is}
 use Rattle.controller.proofs.Rule.{rule-parts}

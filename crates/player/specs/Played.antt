@@ -7,7 +7,7 @@ use Rattle.settings.specs.declared.settings.Settings.{Settings}
 use Rattle.judging.specs.Playing.{play, clean}
 use Rattle.controller.specs.Controller.{controllerOf}
 use Rattle.controller.specs.declared.controller.Controller.{Controller}
-use Rattle.command.specs.declared.parts.Served.{Served}
+use Rattle.serving.specs.declared.call.Served.{Served}
 
 -- a head, of its parts and its hold
 abbrev pub headOf : Served → List ℕ → Controller

@@ -1,12 +1,12 @@
 // Playing bytes from given settings, on a fresh receiver.
-use command::Answer;
-use command::Served;
-use command::serve;
 use judging::TransferState;
 use rules::settings_in_rule;
+use serving::Answer;
+use serving::Served;
+use serving::serve;
 use settings::Settings;
 ghost use mathlib.Core.Path.{_≡_};
-ghost use Rattle.command.specs.Calls.{outcomeOf, receiveCall};
+ghost use Rattle.serving.specs.Calls.{outcomeOf, receiveCall};
 ghost use Rattle.player.specs.Played.{headOf, endSettings, endClean};
 
 // Where a play ended: the settings, and whether each packet was acknowledged and nothing was left

@@ -18,11 +18,11 @@ use Rattle.settings.specs.Settings.{settingsInRule}
 use Rattle.settings.specs.declared.settings.Settings.{Settings}
 use Rattle.judging.specs.Playing.{play, clean}
 use Rattle.judging.specs.Held.{noTransfer}
-use Rattle.command.specs.Calls.{Answers, outcomeOf, After, receiveCall}
+use Rattle.serving.specs.Calls.{Answers, outcomeOf, After, receiveCall}
 use Rattle.controller.specs.declared.controller.Controller.{Controller}
-use Rattle.command.specs.declared.endpoint.Answer.{Answer}
-use Rattle.command.specs.declared.endpoint.Answer.the-variants.{Waiting, Answered, ShortOutput, OutOfRule}
-use Rattle.command.proofs.endpoint.Answer.{the-type}
+use Rattle.serving.specs.declared.answer.Answer.{Answer}
+use Rattle.serving.specs.declared.answer.Answer.the-variants.{Waiting, Answered, ShortOutput, OutOfRule}
+use Rattle.serving.proofs.answer.Answer.{the-type}
 use Rattle.player.specs.Played.{headOf}
 use Rattle.player.proofs.Going.{Going, going-start, going-packet, going-end, going-done, ready-fresh, between-fresh}
 use Rattle.player.proofs.player.play.Statement.{statement}

@@ -16,8 +16,8 @@ use Rattle.settings.specs.declared.settings.Settings.{Settings}
 use Rattle.judging.specs.declared.judge.Judgement.{Judgement}
 use Rattle.judging.specs.declared.transfer.TransferState.{TransferState}
 use Rattle.controller.specs.declared.controller.Controller.{Controller}
-use Rattle.command.specs.declared.endpoint.Answer.{Answer}
-use Rattle.command.specs.declared.endpoint.Answer.the-variants.{Waiting, Answered, ShortOutput, OutOfRule}
+use Rattle.serving.specs.declared.answer.Answer.{Answer}
+use Rattle.serving.specs.declared.answer.Answer.the-variants.{Waiting, Answered, ShortOutput, OutOfRule}
 
 -- What a receive call answers, in the numbers of document 01: a refusal's number; "waiting" and the bytes taken; "answered", the bytes taken and the response's length.
 pub data Outcome : Type 0 where

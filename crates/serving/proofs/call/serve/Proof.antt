@@ -3,13 +3,13 @@ use mathlib.Core.Path.{_≡_, refl, sym, _∙_}
 use borrow.Author.Tests.{lt-ltb, le-ltb, not-true, not-false}
 use borrow.Author.Needs.{needs}
 use Rattle.controller.specs.Controller.{inRule}
-use Rattle.command.specs.Calls.{receiveCall}
-use Rattle.command.proofs.parts.serve.Statement.{statement}
-use Rattle.command.proofs.parts.serve.Tie as tie
-use Rattle.command.proofs.parts.serve.Reads as reads
-use Rattle.command.proofs.parts.serve.Lts as lts
+use Rattle.serving.specs.Calls.{receiveCall}
+use Rattle.serving.proofs.call.serve.Statement.{statement}
+use Rattle.serving.proofs.call.serve.Tie as tie
+use Rattle.serving.proofs.call.serve.Reads as reads
+use Rattle.serving.proofs.call.serve.Lts as lts
 use Rattle.controller.proofs.in_rule.Reads as in-rule-reads
-use Rattle.command.proofs.parts.advance.Reads as advance-reads
+use Rattle.serving.proofs.call.advance.Reads as advance-reads
 
 in-rule-requires : tie.Need-in-rule-requires
 in-rule-requires c κs = search needs

@@ -14,10 +14,10 @@ use Rattle.settings.specs.declared.command.Found.{Found}
 use Rattle.judging.specs.declared.judge.Codes.{Codes}
 use Rattle.judging.specs.declared.judge.Judgement.the-variants.{Refuse}
 use Rattle.judging.proofs.Judged.{judge-faults, judge-fits, judge-none}
-use Rattle.command.proofs.judge.judge.Statement.{statement}
-use Rattle.command.proofs.judge.judge.Tie as tie
-use Rattle.command.proofs.judge.judge.Reads as reads
-use Rattle.command.proofs.judge.judge.Lts as lts
+use Rattle.serving.proofs.judge.judge.Statement.{statement}
+use Rattle.serving.proofs.judge.judge.Tie as tie
+use Rattle.serving.proofs.judge.judge.Reads as reads
+use Rattle.serving.proofs.judge.judge.Lts as lts
 
 array-read-find : tie.Need-array-read-find
 array-read-find c = search needs

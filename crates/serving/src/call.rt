@@ -1,6 +1,6 @@
 // The receive call with the controller's parts by themselves and its hold lent, so that a caller that
 // plays many packets copies no hold.
-use crate::endpoint::Answer;
+use crate::answer::Answer;
 use crate::judge::judge;
 use carrying::respond;
 use carrying::settings_after;
@@ -19,7 +19,7 @@ ghost use Rattle.writer.specs.Writing.{written};
 ghost use Rattle.judging.specs.Held.{heldIn, transferInRule, transferStateAfter};
 ghost use Rattle.judging.specs.Judging.{settingsAfter};
 ghost use Rattle.controller.specs.Controller.{controllerOf, partsInRule};
-ghost use Rattle.command.specs.Calls.{outcomeOf, receiveCall, judgedOn, drawnOn};
+ghost use Rattle.serving.specs.Calls.{outcomeOf, receiveCall, judgedOn, drawnOn};
 
 // The controller's parts beside its hold, and the answer.
 pub struct Served {

@@ -14,15 +14,15 @@ use Rattle.settings.specs.declared.settings.Settings.{Settings}
 use Rattle.judging.specs.Held.{heldIn}
 use Rattle.judging.specs.declared.transfer.TransferState.{TransferState}
 use Rattle.controller.specs.Controller.{controllerOf, inRule}
-use Rattle.command.specs.Calls.{Answers, judgedIn, responseIn, completeBy, After, waiting, answered, receiveCall}
+use Rattle.serving.specs.Calls.{Answers, judgedIn, responseIn, completeBy, After, waiting, answered, receiveCall}
 use Rattle.controller.specs.declared.controller.Controller.{Controller}
 use Rattle.controller.proofs.Rule.{rule-parts}
 use borrow.Author.Needs.{needs}
-use Rattle.command.proofs.parts.advance.Statement.{statement}
-use Rattle.command.proofs.parts.advance.Tie as tie
-use Rattle.command.proofs.parts.advance.Reads as reads
-use Rattle.command.proofs.parts.advance.Lts as lts
-use Rattle.command.proofs.parts.settle.Reads as settle-reads
+use Rattle.serving.proofs.call.advance.Statement.{statement}
+use Rattle.serving.proofs.call.advance.Tie as tie
+use Rattle.serving.proofs.call.advance.Reads as reads
+use Rattle.serving.proofs.call.advance.Lts as lts
+use Rattle.serving.proofs.call.settle.Reads as settle-reads
 use Rattle.judging.proofs.transfer.TransferState.held.Reads as held-reads
 use Rattle.packet.proofs.put_header.Reads as put-header-reads
 use Rattle.packet.proofs.take.Reads as take-reads

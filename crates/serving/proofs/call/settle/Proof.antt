@@ -11,19 +11,19 @@ use Rattle.carrying.specs.Emitting.{lengthIn}
 use Rattle.carrying.proofs.Emitting.{emitted-length, emitted, response-short}
 use Rattle.judging.specs.Judging.{responseType, responseData, settingsAfter, response}
 use Rattle.judging.specs.Held.{heldIn, transferStateAfter, packetIn}
-use Rattle.command.specs.Calls.{judgedOn, drawnOn}
+use Rattle.serving.specs.Calls.{judgedOn, drawnOn}
 use Rattle.settings.specs.declared.settings.Settings.{Settings}
 use Rattle.judging.specs.declared.judge.Judgement.{Judgement}
 use Rattle.judging.proofs.Holding.{held-most}
 use borrow.Author.Needs.{needs}
-use Rattle.command.proofs.parts.settle.Statement.{statement}
-use Rattle.command.proofs.parts.settle.Tie as tie
-use Rattle.command.proofs.parts.settle.Reads as reads
-use Rattle.command.proofs.parts.settle.Lts as lts
+use Rattle.serving.proofs.call.settle.Statement.{statement}
+use Rattle.serving.proofs.call.settle.Tie as tie
+use Rattle.serving.proofs.call.settle.Reads as reads
+use Rattle.serving.proofs.call.settle.Lts as lts
 use Rattle.carrying.proofs.respond.Reads as respond-reads
 use Rattle.carrying.proofs.settings_after.Reads as settings-after-reads
 use Rattle.carrying.proofs.transfer_after.Reads as transfer-after-reads
-use Rattle.command.proofs.judge.judge.Reads as judge-reads
+use Rattle.serving.proofs.judge.judge.Reads as judge-reads
 use Rattle.judging.proofs.transfer.TransferState.held.Reads as held-reads
 use Rattle.packet.proofs.word.Reads as word-reads
 
