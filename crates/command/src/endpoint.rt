@@ -1,5 +1,6 @@
 // The receive call: host bytes in, a response out, the controller handed back.
 use controller::Controller;
+use controller::Parts;
 use packet::Receiver;
 use serving::Answer;
 use serving::serve;
@@ -22,19 +23,17 @@ pub fn receive(c: Controller, input: &[u8], out: &mut [u8]) -> Step
     let transfer = c.transfer;
     let header = c.receiver.header;
     let mut hold = c.receiver.hold;
-    let s = serve(
-        settings,
-        transfer,
-        header,
-        c.receiver.sum,
-        c.receiver.received,
-        &mut hold,
-        input,
-        out,
-    );
-    let settings = s.settings;
-    let transfer = s.transfer;
-    let header = s.header;
+    let p = Parts {
+        settings: settings,
+        transfer: transfer,
+        header: header,
+        sum: c.receiver.sum,
+        received: c.receiver.received,
+    };
+    let s = serve(p, &mut hold, input, out);
+    let settings = s.parts.settings;
+    let transfer = s.parts.transfer;
+    let header = s.parts.header;
     let answer = s.answer;
     Step {
         controller: Controller {
@@ -42,8 +41,8 @@ pub fn receive(c: Controller, input: &[u8], out: &mut [u8]) -> Step
             transfer: transfer,
             receiver: Receiver {
                 header: header,
-                sum: s.sum,
-                received: s.received,
+                sum: s.parts.sum,
+                received: s.parts.received,
                 hold: hold,
             },
         },

@@ -14,6 +14,15 @@ pub struct Controller {
     pub receiver: Receiver,
 }
 
+// A controller's parts beside its hold, for a call to which the hold is lent.
+pub struct Parts {
+    pub settings: Settings,
+    pub transfer: TransferState,
+    pub header: [u8; 6],
+    pub sum: u8,
+    pub received: usize,
+}
+
 // The current packet has not all its bytes.
 fn packet_in_rule(header: [u8; 6], received: usize) -> bool
     ensures { λ r. ⌜ r ≡ packetInRule header received ⌝ }
@@ -36,17 +45,13 @@ impl Controller {
     }
 }
 
-// What refusal 3 lets pass: the parts of a controller that it looks at.
-pub fn in_rule(
-    settings: Settings,
-    transfer: TransferState,
-    header: [u8; 6],
-    received: usize,
-) -> bool
-    ensures { λ r. ⌜ r ≡ partsInRule settings transfer header received ⌝ }
+// What refusal 3 lets pass: it does not look at the hold.
+pub fn in_rule(p: Parts) -> bool
+    ensures { λ r. ⌜ r ≡ partsInRule p ⌝ }
 {
-    let a = settings_in_rule(settings);
-    let b = transfer.in_rule();
-    let c = packet_in_rule(header, received);
+    let header = p.header;
+    let a = settings_in_rule(p.settings);
+    let b = p.transfer.in_rule();
+    let c = packet_in_rule(header, p.received);
     a & b & c
 }

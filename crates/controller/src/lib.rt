@@ -4,4 +4,5 @@
 mod controller;
 
 pub use controller::Controller;
+pub use controller::Parts;
 pub use controller::in_rule;

@@ -93,6 +93,10 @@ answered c t out =
       output = written (responseIn c t) out;
     }
 
+-- a packet that is complete in the receiver, its checksum right or not
+abbrev pub settled : Controller → Bool → ℕ → List ℕ → After
+settled c right n out = answered c (completeBy n right (c .receiver)) out
+
 -- tested in the order 1, 3
 unfoldable pub receiveCall : Controller → List ℕ → List ℕ → After
 receiveCall c input out =

@@ -14,7 +14,7 @@ use Rattle.settings.specs.declared.settings.Settings.{Settings}
 use Rattle.judging.specs.Held.{heldIn}
 use Rattle.judging.specs.declared.transfer.TransferState.{TransferState}
 use Rattle.controller.specs.Controller.{controllerOf, inRule}
-use Rattle.serving.specs.Calls.{Answers, judgedIn, responseIn, completeBy, After, waiting, answered, receiveCall}
+use Rattle.serving.specs.Calls.{judgedIn, responseIn, After, waiting, settled, receiveCall}
 use Rattle.controller.specs.declared.controller.Controller.{Controller}
 use Rattle.controller.proofs.Rule.{rule-parts}
 use borrow.Author.Needs.{needs}
@@ -40,23 +40,22 @@ module _
   waits f = rw (le-ltb (length out) 64 l, r, ← e, f)
 
   answers : t .complete ≡ true
-      → receiveCall c input out
-      ≡ answered (record { settings = c .settings; transfer = c .transfer; receiver = t .receiver }) (completeBy (t .taken) (t .right) (t .receiver)) out
+      → receiveCall c input out ≡ settled (record { settings = c .settings; transfer = c .transfer; receiver = t .receiver }) (t .right) (t .taken) out
   unfolding receiveCall responseIn judgedIn
   answers f = rw (le-ltb (length out) 64 l, r, ← e, f)
 
-controller-eq : {s s′ : Settings} {t t′ : TransferState} {r : Receiver} → s ≡ s′ → t ≡ t′
-    → _≡_ {A = Controller} (record { settings = s; transfer = t; receiver = r }) (record { settings = s′; transfer = t′; receiver = r })
-controller-eq e f = cc
-
 -- the controller as it came in
 abbrev came : tie.Start → Controller
-came s = let a = s .args in controllerOf (a .settings) (a .transfer) (a .header) (a .sum) (a .received) (now (a .hold))
+came s = controllerOf (s .args .p) (now (s .args .hold))
 
 -- refusal 3 lets it pass
 passed : (s : tie.Start) → inRule (came s) ≡ true
 unfolding inRule
 passed s = s .pre .0
+
+-- a header has six bytes
+six : (s : tie.Start) → length (s .args .p .header) ≡ 6
+six s = search needs
 
 put-header-requires : tie.Need-put-header-requires
 put-header-requires c κs = search needs
@@ -69,26 +68,25 @@ take-requires c κs = search needs
 
 -- what the receiver took of the input, and that the controller was in rule
 took : (c : tie.After-take)
-    → let s = c .before .before .before .before .before .before .before in
+    → let s = c .before .before .before .before .before .before .before .before in
     together (c .before .before .before .put-header .last .0) (c .take .last .1 .1 .1 .0) (c .take .result)
-    ≡ receiving (came s .receiver) (heldIn (s .args .transfer)) (now (s .args .input))
+    ≡ receiving (came s .receiver) (heldIn (s .args .p .transfer)) (now (s .args .input))
 took c =
     let h = c .before .before .before in
-    let s = h .before .before .before .before in
+    let s = h .before .before .before .before .before in
     let a = s .args in
-    let n : length (a .header) ≡ 6 = search (needs, s .good .1 .1 .0) in
-    taken-is (came s .receiver) (heldIn (a .transfer)) (now (a .input)) n (h .put-header .ensures) (c .before .held .ensures) (c .take .ensures .0) (c .take .ensures .1)
+    taken-is (came s .receiver) (heldIn (a .p .transfer)) (now (a .input)) (six s) (h .put-header .ensures) (c .before .held .ensures) (c .take .ensures .0) (c .take .ensures .1)
 
 returns : tie.Need-returns
 returns c =
     let t = c .before .before in
-    let s = t .before .before .before .before .before .before .before in
+    let s = t .before .before .before .before .before .before .before .before in
     let w = waits (came s) (now (s .args .input)) (now (s .args .out)) (s .pre .1) (passed s) (took t) (not-true (t .take .result .complete) (c .if1 .taken)) in
     (sym (ap (λ (x : After). x .answer) w), sym (ap (λ (x : After). x .controller) w), sym (ap (λ (x : After). x .output) w))
 
 settle-requires : tie.Need-settle-requires
 settle-requires c κs =
-    let s = c .before .before .before .before .before .before .before .before .before .before .before .before in
+    let s = c .before .before .before .before .before .before .before .before .before .before .before .before .before in
     let n : length (c .before .before .before .before .before .take .last .1 .1 .1 .0) ≡ 1024 = search needs in
     (rule-parts (came s) (passed s) .transfer, n, search needs)
 
@@ -96,17 +94,13 @@ same-length : tie.Need-same-length
 same-length c = search needs
 
 returns-2 : tie.Need-returns-2
-unfolding responseIn judgedIn
 returns-2 c =
-    let e = c .before .before .before .before .settle .ensures in
-    let k = c .before .before .before .before .before .before .before .before in
+    let e = c .before .before .settle .ensures in
+    let k = c .before .before .before .before .before .before in
     let t = k .before .before in
-    let s = t .before .before .before .before .before .before .before in
-    let w = answers (came s) (now (s .args .input)) (now (s .args .out)) (s .pre .1) (passed s) (took t) (not-false (t .take .result .complete) (k .if1 .left)) in (
-      ap (Answers (t .take .result .taken)) (e .2) ∙ sym (ap (λ (x : After). x .answer) w),
-      controller-eq (e .0) (e .1) ∙ sym (ap (λ (x : After). x .controller) w),
-      e .3 ∙ sym (ap (λ (x : After). x .output) w),
-    )
+    let s = t .before .before .before .before .before .before .before .before in
+    let w = answers (came s) (now (s .args .input)) (now (s .args .out)) (s .pre .1) (passed s) (took t) (not-false (t .take .result .complete) (k .if1 .left)) in
+    (e .0 ∙ sym (ap (λ (x : After). x .answer) w), e .1 ∙ sym (ap (λ (x : After). x .controller) w), e .2 ∙ sym (ap (λ (x : After). x .output) w))
 
 pub advance-spec : {M : Type 1} → statement M
 advance-spec = tie.close (tie.spec put-header-requires held-requires take-requires returns settle-requires same-length returns-2)

@@ -11,8 +11,11 @@ use Rattle.carrying.specs.Emitting.{lengthIn}
 use Rattle.carrying.proofs.Emitting.{emitted-length, emitted, response-short}
 use Rattle.judging.specs.Judging.{responseType, responseData, settingsAfter, response}
 use Rattle.judging.specs.Held.{heldIn, transferStateAfter, packetIn}
-use Rattle.serving.specs.Calls.{judgedOn, drawnOn}
+use Rattle.serving.specs.Calls.{Answers, judgedIn, responseIn, drawnOn}
+use Rattle.packet.specs.declared.receiver.Receiver.{Receiver}
 use Rattle.settings.specs.declared.settings.Settings.{Settings}
+use Rattle.judging.specs.declared.transfer.TransferState.{TransferState}
+use Rattle.controller.specs.declared.controller.Controller.{Controller}
 use Rattle.judging.specs.declared.judge.Judgement.{Judgement}
 use Rattle.judging.proofs.Holding.{held-most}
 use borrow.Author.Needs.{needs}
@@ -34,6 +37,10 @@ written-by : (j : Judgement) (s : Settings) (cmd1 cmd2 : ℕ) (out : List ℕ) �
 written-by j s cmd1 cmd2 out l =
     let n = response-short s j in
     (emitted-length (responseType j) cmd1 cmd2 (responseData s j) out n (omega (arith, l)), emitted (responseType j) cmd1 cmd2 (responseData s j) out n (omega (arith, l)))
+
+controller-eq : {s s′ : Settings} {t t′ : TransferState} {r : Receiver} → s ≡ s′ → t ≡ t′
+    → _≡_ {A = Controller} (record { settings = s; transfer = t; receiver = r }) (record { settings = s′; transfer = t′; receiver = r })
+controller-eq e f = cc
 
 judge-requires : tie.Need-judge-requires
 judge-requires c κs = search needs
@@ -61,8 +68,8 @@ word-requires c κs = search needs
 
 add-n : tie.Need-add-n
 add-n c =
-    let s = c .before .before .before .before .before .before .before .before .before in
-    omega (arith, c .word .ensures .1, c .before .held .ensures, held-most (s .args .transfer) (now (s .args .hold)) (s .pre .0) (s .pre .1))
+    let s = c .before .before .before .before .before .before .before .before .before .before in
+    omega (arith, c .word .ensures .1, c .before .held .ensures, held-most (s .args .p .transfer) (now (s .args .hold)) (s .pre .0) (s .pre .1))
 
 settings-after-requires : tie.Need-settings-after-requires
 settings-after-requires c κs = search needs
@@ -74,21 +81,24 @@ same-length : tie.Need-same-length
 same-length c = search needs
 
 returns : tie.Need-returns
+unfolding responseIn judgedIn
 returns c =
     let e = c .before .before .before .before .before .before in
     let j = e .before .before in
-    let s = j .before .before .before in
+    let s = j .before .before .before .before in
     let a = s .args in
+    let h = a .p .header in
     let k = j .judge .ensures in
-    let p : packetOf (responseType (j .judge .result)) (getD (a .t3) 1 0) (getD (a .t3) 2 0) whole (responseData (a .settings) (j .judge .result))
-    ≡ drawnOn (a .settings) (a .transfer) (a .t3) (a .right) (now (a .hold)) =
-    unfold response in ap (λ (x : Judgement). packetOf (responseType x) (getD (a .t3) 1 0) (getD (a .t3) 2 0) whole (responseData (a .settings) x)) k in
-    let w = written-by (j .judge .result) (a .settings) (getD (a .t3) 1 0) (getD (a .t3) 2 0) (now (a .out)) (s .pre .2) in
-    let m : c .before .before .before .held .result + c .before .before .word .result ≡ heldIn (a .transfer) + payloadLength (a .t3) =
+    let p : packetOf (responseType (j .judge .result)) (getD (a .p .header) 1 0) (getD (a .p .header) 2 0) whole (responseData (a .p .settings) (j .judge .result))
+    ≡ drawnOn (a .p .settings) (a .p .transfer) (a .p .header) (a .right) (now (a .hold)) =
+    unfold response in ap (λ (x : Judgement). packetOf (responseType x) (getD h 1 0) (getD h 2 0) whole (responseData (a .p .settings) x)) k in
+    let w = written-by (j .judge .result) (a .p .settings) (getD h 1 0) (getD h 2 0) (now (a .out)) (s .pre .2) in
+    let m : c .before .before .before .held .result + c .before .before .word .result ≡ heldIn (a .p .transfer) + payloadLength (a .p .header) =
     ap₂ _+_ (c .before .before .before .held .ensures) (c .before .before .word .ensures .0) in (
-      c .before .settings-after .ensures ∙ ap (settingsAfter (a .settings)) k,
-      c .transfer-after .ensures ∙ ap₂ (transferStateAfter (a .transfer)) m k,
-      e .respond .ensures .0 ∙ w .0 ∙ ap length p,
+      ap (Answers (a .taken)) (e .respond .ensures .0 ∙ w .0 ∙ ap length p),
+      controller-eq
+          (c .before .settings-after .ensures ∙ ap (settingsAfter (a .p .settings)) k)
+          (c .transfer-after .ensures ∙ ap₂ (transferStateAfter (a .p .transfer)) m k),
       e .respond .ensures .1 ∙ w .1 ∙ ap (λ (b : List ℕ). written b (now (a .out))) p,
     )
 
