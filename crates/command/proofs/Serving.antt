@@ -15,14 +15,14 @@ use Rattle.writer.specs.Writing.{written}
 use Rattle.packet.specs.Calls.{Call, Served, andThen, callsOn, servedOne, served, joined}
 use Rattle.packet.specs.declared.receiver.Receiver.{Receiver}
 use Rattle.packet.specs.declared.receiver.Received.{Received}
-use Rattle.packet.proofs.Cases.{bool-cases, cond-cases, and-left, and-right, and-both}
+use Rattle.packet.proofs.Cases.{bool-cases, cond-cases}
 use Rattle.packet.proofs.Receiving.{Made, made-with, made-between, with-nil, missing-least, after, cut, behind, waits, completes}
 use Rattle.packet.proofs.Calls.{Streaming, shifted, in-pieces}
 use Rattle.settings.specs.Table.{cmd1For, cmd2For, commandOf, isKnown}
-use Rattle.settings.specs.Settings.{settingsInRule}
 use Rattle.judging.specs.Judging.{Transfer, Closed, Opened, Arrived, held, faults, anyFault, judgeData, judge, settingsAfter}
 use Rattle.judging.specs.Held.{noTransfer, heldIn, transferIn, transferInRule, packetIn, transferStateAfter}
-use Rattle.command.specs.Calls.{Outcome, Refuses, Waits, Answers, packetInRule, inRule, arrivedIn, judgedIn, carriedOut, responseIn, takenBy, After, refused, waiting, answered, receiveCall}
+use Rattle.controller.specs.Controller.{packetInRule, inRule}
+use Rattle.serving.specs.Calls.{Outcome, Refuses, Waits, Answers, arrivedIn, judgedIn, carriedOut, responseIn, takenBy, After, refused, waiting, answered, receiveCall}
 use Rattle.settings.specs.declared.settings.Settings.{Settings}
 use Rattle.settings.specs.declared.command.Command.{Command}
 use Rattle.settings.specs.declared.command.Found.{Found}
@@ -30,7 +30,8 @@ use Rattle.settings.specs.declared.command.Found.the-variants.{Known, Unknown}
 use Rattle.judging.specs.declared.judge.Judgement.{Judgement}
 use Rattle.judging.specs.declared.judge.Judgement.the-variants.{Refuse, Hold, Write, Read}
 use Rattle.judging.specs.declared.transfer.TransferState.{TransferState}
-use Rattle.command.specs.declared.controller.Controller.{Controller}
+use Rattle.controller.specs.declared.controller.Controller.{Controller}
+use Rattle.controller.proofs.Rule.{Rule, rule-parts, rule-whole}
 use Rattle.settings.proofs.Commands.{found}
 use Rattle.settings.proofs.Keeping.{Kept, kept-by, in-rule-of}
 use Rattle.judging.proofs.Judgements.{Sound, sound}
@@ -59,28 +60,6 @@ serves out c b = shown (receiveCall c b out)
 pub record Ready (c : Controller) : Type 0 where
   pub rule : inRule c ≡ true
   pub made : Made (c .receiver)
-
--- the parts of "in rule"
-pub record Rule (c : Controller) : Type 0 where
-  pub settings : settingsInRule (c .settings) ≡ true
-  pub transfer : transferInRule (c .transfer) ≡ true
-  pub packet : packetInRule (c .receiver .header) (c .receiver .received) ≡ true
-
-pub rule-parts : (c : Controller) → inRule c ≡ true → Rule c
-unfolding inRule
-rule-parts c h =
-    let a = settingsInRule (c .settings) in
-    let b = transferInRule (c .transfer) in
-    let d = packetInRule (c .receiver .header) (c .receiver .received) in
-    record { settings = and-left a b (and-left (a && b) d h); transfer = and-right a b (and-left (a && b) d h); packet = and-right (a && b) d h }
-
-pub rule-whole : (c : Controller) → Rule c → inRule c ≡ true
-unfolding inRule
-rule-whole c r =
-    let a = settingsInRule (c .settings) in
-    let b = transferInRule (c .transfer) in
-    let d = packetInRule (c .receiver .header) (c .receiver .received) in
-    and-both (a && b) d (and-both a b (r .settings) (r .transfer)) (r .packet)
 
 -- the two ends of a call that is not refused
 module _ (c : Controller) (b out : List ℕ) (k : Ready c) (l : 64 ≤ length out) where

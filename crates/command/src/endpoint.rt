@@ -1,26 +1,11 @@
 // The receive call: host bytes in, a response out, the controller handed back.
-use crate::controller::Controller;
-use crate::parts::serve;
+use controller::Controller;
+use controller::Parts;
 use packet::Receiver;
+use serving::Answer;
+use serving::serve;
 ghost use mathlib.Core.Path.{_≡_};
-ghost use Rattle.command.specs.Calls.{outcomeOf, receiveCall};
-
-// What a call answers.
-pub enum Answer {
-    // The input ended before a packet did; all of it was taken.
-    Waiting(usize),
-    // One packet is complete.
-    Answered {
-        // How many bytes of the input were taken.
-        taken: usize,
-        // How long the response is that stands at the output's start.
-        length: usize,
-    },
-    // Refusal 1: the output is shorter than 64 bytes.
-    ShortOutput,
-    // Refusal 3: the controller is out of rule.
-    OutOfRule,
-}
+ghost use Rattle.serving.specs.Calls.{outcomeOf, receiveCall};
 
 // An answer, and the controller afterwards.
 pub struct Step {
@@ -38,19 +23,17 @@ pub fn receive(c: Controller, input: &[u8], out: &mut [u8]) -> Step
     let transfer = c.transfer;
     let header = c.receiver.header;
     let mut hold = c.receiver.hold;
-    let s = serve(
-        settings,
-        transfer,
-        header,
-        c.receiver.sum,
-        c.receiver.received,
-        &mut hold,
-        input,
-        out,
-    );
-    let settings = s.settings;
-    let transfer = s.transfer;
-    let header = s.header;
+    let p = Parts {
+        settings: settings,
+        transfer: transfer,
+        header: header,
+        sum: c.receiver.sum,
+        received: c.receiver.received,
+    };
+    let s = serve(p, &mut hold, input, out);
+    let settings = s.parts.settings;
+    let transfer = s.parts.transfer;
+    let header = s.parts.header;
     let answer = s.answer;
     Step {
         controller: Controller {
@@ -58,8 +41,8 @@ pub fn receive(c: Controller, input: &[u8], out: &mut [u8]) -> Step
             transfer: transfer,
             receiver: Receiver {
                 header: header,
-                sum: s.sum,
-                received: s.received,
+                sum: s.parts.sum,
+                received: s.parts.received,
                 hold: hold,
             },
         },

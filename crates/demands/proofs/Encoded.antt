@@ -20,7 +20,7 @@ use Rattle.judging.specs.Playing.{State, from, judged, next, responses, after}
 use Rattle.judging.specs.Held.{transferIn}
 use Rattle.encoder.specs.Encoding.{writePacket, encoded}
 use Rattle.judging.specs.declared.judge.Judgement.the-variants.{Refuse, Write}
-use Rattle.command.specs.declared.controller.Controller.{Controller}
+use Rattle.controller.specs.declared.controller.Controller.{Controller}
 use Rattle.encoder.proofs.Writes.{encoder-judged}
 use Rattle.command.proofs.Serving.{serves, Ready}
 use Rattle.demands.proofs.Following.{stateOf, follows}

@@ -39,7 +39,7 @@ use Rattle.judging.specs.Judging.{
 }
 use Rattle.judging.specs.Playing.{State, judged, next, responses, after}
 use Rattle.judging.specs.Held.{heldIn, transferIn, transferInRule, packetIn, transferStateAfter}
-use Rattle.command.specs.Calls.{arrivedIn, judgedIn, carriedOut, responseIn, takenBy, After, waiting, answered, receiveCall}
+use Rattle.serving.specs.Calls.{arrivedIn, judgedIn, carriedOut, responseIn, takenBy, After, waiting, answered, receiveCall}
 use Rattle.settings.specs.declared.settings.Settings.{Settings}
 use Rattle.settings.specs.declared.command.Command.{Command}
 use Rattle.settings.specs.declared.command.Found.{Found}
@@ -47,10 +47,11 @@ use Rattle.settings.specs.declared.command.Found.the-variants.{Known, Unknown}
 use Rattle.judging.specs.declared.judge.Judgement.{Judgement}
 use Rattle.judging.specs.declared.judge.Judgement.the-variants.{Refuse, Hold, Write, Read}
 use Rattle.judging.specs.declared.transfer.TransferState.{TransferState}
-use Rattle.command.specs.declared.controller.Controller.{Controller}
+use Rattle.controller.specs.declared.controller.Controller.{Controller}
 use Rattle.settings.proofs.Commands.{found}
 use Rattle.judging.proofs.Holding.{fits-hold, by-transfer, none-open, one-open, held-is, held-most, held-length}
-use Rattle.command.proofs.Serving.{serves, shown, Ready, Rule, rule-parts, not-refused, stays-in-rule, endpoint-streams, Bounded, bounded}
+use Rattle.controller.proofs.Rule.{Rule, rule-parts}
+use Rattle.command.proofs.Serving.{serves, shown, Ready, not-refused, stays-in-rule, endpoint-streams, Bounded, bounded}
 
 -- the state of the head, in document 01's terms
 abbrev pub stateOf : Controller → State

@@ -37,11 +37,12 @@ use Rattle.judging.specs.Judging.{
   response,
 }
 use Rattle.judging.specs.Playing.{State, judged, next, judgements, after}
-use Rattle.command.specs.Calls.{inRule, After, refused, receiveCall}
+use Rattle.controller.specs.Controller.{inRule}
+use Rattle.serving.specs.Calls.{After, refused, receiveCall}
 use Rattle.judging.specs.declared.judge.Codes.{Codes}
 use Rattle.judging.specs.declared.judge.Judgement.{Judgement}
 use Rattle.judging.specs.declared.judge.Judgement.the-variants.{Refuse, Hold, Write, Read}
-use Rattle.command.specs.declared.controller.Controller.{Controller}
+use Rattle.controller.specs.declared.controller.Controller.{Controller}
 
 -- Codes go out ascending, none twice.
 

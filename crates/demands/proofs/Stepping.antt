@@ -16,9 +16,9 @@ use Rattle.packet.proofs.Receiving.{Between, between-packet, one, first-of, too
 use Rattle.judging.specs.Judging.{arrived, acknowledged, response}
 use Rattle.judging.specs.Playing.{State, judged, next}
 use Rattle.judging.specs.Held.{heldIn}
-use Rattle.command.specs.Calls.{Outcome, Waits, Answers, judgedIn, carriedOut, responseIn, After, waiting, answered, receiveCall}
+use Rattle.serving.specs.Calls.{Outcome, Waits, Answers, judgedIn, carriedOut, responseIn, After, waiting, answered, receiveCall}
 use Rattle.judging.specs.declared.judge.Judgement.{Judgement}
-use Rattle.command.specs.declared.controller.Controller.{Controller}
+use Rattle.controller.specs.declared.controller.Controller.{Controller}
 use Rattle.judging.proofs.Judgements.{acknowledged-type}
 use Rattle.command.proofs.Serving.{Ready, not-refused, stays-in-rule}
 use Rattle.demands.proofs.Following.{stateOf, response-same, state-same, part-state}

@@ -10,7 +10,7 @@ use Rattle.settings.specs.declared.settings.Settings.{Settings}
 use Rattle.settings.specs.declared.command.Found.{Found}
 use Rattle.settings.specs.declared.command.Found.the-variants.{Known, Unknown}
 use Rattle.values.specs.Values.{valueFrom}
-use Rattle.command.specs.Calls.{Outcome, Refuses, Waits, Answers}
+use Rattle.serving.specs.Calls.{Outcome, Refuses, Waits, Answers}
 use Rattle.encoder.specs.Encoding as encoding
 use Rattle.tuning.specs.Report as tuning
 use Rattle.head.specs.declared.receipt.Receipt.{Receipt}

@@ -2,7 +2,8 @@
 use command::Answer;
 use command::Controller;
 ghost use mathlib.Core.Path.{_≡_};
-ghost use Rattle.command.specs.Calls.{fresh, outcomeOf, receiveCall};
+ghost use Rattle.controller.specs.Controller.{fresh};
+ghost use Rattle.serving.specs.Calls.{outcomeOf, receiveCall};
 ghost use Rattle.head.specs.Answers.{receiptOf};
 
 // What a receive call answers.

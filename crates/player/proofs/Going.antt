@@ -20,10 +20,12 @@ use Rattle.settings.specs.declared.settings.Settings.{Settings}
 use Rattle.judging.specs.Judging.{Transfer, Closed, isOpen, acknowledged}
 use Rattle.judging.specs.Playing.{State, from, judged, next, judgements, after, play, allAcknowledged, isNil, clean}
 use Rattle.judging.specs.Held.{noTransfer, isOpenIn, transferInRule}
-use Rattle.command.specs.Calls.{Outcome, Waits, Answers, Refuses, After, packetInRule, inRule, receiveCall}
-use Rattle.command.specs.declared.controller.Controller.{Controller}
+use Rattle.controller.specs.Controller.{packetInRule, inRule}
+use Rattle.serving.specs.Calls.{Outcome, Waits, Answers, Refuses, After, receiveCall}
+use Rattle.controller.specs.declared.controller.Controller.{Controller}
 use Rattle.judging.proofs.Holding.{open-is}
-use Rattle.command.proofs.Serving.{Ready, rule-parts, stays-in-rule}
+use Rattle.controller.proofs.Rule.{rule-parts}
+use Rattle.command.proofs.Serving.{Ready, stays-in-rule}
 use Rattle.demands.proofs.Following.{stateOf}
 use Rattle.demands.proofs.Stepping.{Takes, takes-packet, takes-part}
 

@@ -5,13 +5,6 @@ use mathlib.Core.List.{List}
 use Rattle.settings.specs.Settings.{settingsInRule}
 use Rattle.settings.specs.declared.settings.Settings.{Settings}
 use Rattle.judging.specs.Playing.{play, clean}
-use Rattle.command.specs.Calls.{controllerOf}
-use Rattle.command.specs.declared.controller.Controller.{Controller}
-use Rattle.command.specs.declared.parts.Served.{Served}
-
--- a head, of its parts and its hold
-abbrev pub headOf : Served → List ℕ → Controller
-headOf c hold = controllerOf (c .settings) (c .transfer) (c .header) (c .sum) (c .received) hold
 
 -- where the play ends
 abbrev pub endSettings : Settings → List ℕ → Settings

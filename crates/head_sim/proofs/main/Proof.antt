@@ -7,7 +7,7 @@ use Rattle.head_sim.proofs.main.Statement.{statement}
 use Rattle.head_sim.proofs.main.Tie as tie
 use Rattle.head_sim.proofs.main.Reads as reads
 use Rattle.head_sim.proofs.main.Lts as lts
-use Rattle.command.proofs.controller.Controller.fresh.Reads as fresh-reads
+use Rattle.controller.proofs.controller.Controller.fresh.Reads as fresh-reads
 use Rattle.head_sim.proofs.read.Reads as read-reads
 use Rattle.head_sim.proofs.serve.Reads as serve-reads
 

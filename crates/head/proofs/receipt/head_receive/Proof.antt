@@ -44,18 +44,18 @@ use denote.Triple.Spec.{Meets, tripleOf}
 use denote.Triple.Table.{entered, cited}
 use denote.Triple.Walked.{says, Stays, stay-ref, stay-none-slice, gave-slice, walkOf, AllGo, goes-ref, goes-none-slice, goes-gave-slice, Walks, ends-at, walked, walk-meets}
 use denote.Exit.{yes}
-use Rattle.command.specs.Calls.{outcomeOf, receiveCall}
+use Rattle.serving.specs.Calls.{outcomeOf, receiveCall}
 use Rattle.head.specs.Answers.{receiptOf}
-use Rattle.command.specs.declared.controller.Controller.{Controller}
-use Rattle.command.specs.declared.endpoint.Answer.{Answer}
+use Rattle.controller.specs.declared.controller.Controller.{Controller}
+use Rattle.serving.specs.declared.answer.Answer.{Answer}
 use Rattle.command.specs.declared.endpoint.Step.{Step}
 use Rattle.head.specs.declared.receipt.Receipt.{Receipt}
-use Rattle.command.proofs.controller.Controller as T
-use Rattle.command.proofs.controller.Controller.Laws as T′
+use Rattle.controller.proofs.controller.Controller as T
+use Rattle.controller.proofs.controller.Controller.Laws as T′
 use Rattle.command.proofs.endpoint.Step as S
 use Rattle.command.proofs.endpoint.Step.Laws as S′
-use Rattle.command.proofs.endpoint.Answer as N
-use Rattle.command.proofs.endpoint.Answer.Laws as N′
+use Rattle.serving.proofs.answer.Answer as N
+use Rattle.serving.proofs.answer.Answer.Laws as N′
 use Rattle.head.proofs.receipt.Receipt as E
 use Rattle.head.proofs.receipt.Receipt.Laws as E′
 use Rattle.command.proofs.receive as step

@@ -33,10 +33,10 @@ use denote.Triple.Entry.{onEntry}
 use denote.Triple.Spec.{Meets, tripleOf}
 use denote.Triple.Table.{entered, cited}
 use denote.Triple.Walked.{says, Stays, stay-ref, walkOf, AllGo, goes-ref, Walks, ends-at, walked, walk-meets}
-use Rattle.command.specs.Calls.{fresh}
-use Rattle.command.specs.declared.controller.Controller.{Controller}
-use Rattle.command.proofs.controller.Controller as T
-use Rattle.command.proofs.controller.Controller.Laws as T′
+use Rattle.controller.specs.Controller.{fresh}
+use Rattle.controller.specs.declared.controller.Controller.{Controller}
+use Rattle.controller.proofs.controller.Controller as T
+use Rattle.controller.proofs.controller.Controller.Laws as T′
 use Rattle.head.proofs.receipt.head_fresh as start
 use Rattle.head.proofs.receipt.head_fresh.Symbol as fresh-def
 use Rattle.head.proofs.receipt.head_fresh.Symbol.{name as #head·head-fresh}

@@ -1,0 +1,2 @@
+-- The laws of a controller in rule, for the layers above.
+pub mod Rule

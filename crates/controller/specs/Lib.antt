@@ -1,0 +1,2 @@
+-- What the contracts on a controller cite.
+pub mod Controller

@@ -1,0 +1,40 @@
+-- `serve` meets its contract.
+use mathlib.Core.Path.{_≡_, refl, sym, _∙_}
+use borrow.Author.Tests.{lt-ltb, le-ltb, not-true, not-false}
+use borrow.Author.Needs.{needs}
+use Rattle.controller.specs.Controller.{inRule}
+use Rattle.serving.specs.Calls.{receiveCall}
+use Rattle.serving.proofs.call.serve.Statement.{statement}
+use Rattle.serving.proofs.call.serve.Tie as tie
+use Rattle.serving.proofs.call.serve.Reads as reads
+use Rattle.serving.proofs.call.serve.Lts as lts
+use Rattle.controller.proofs.in_rule.Reads as in-rule-reads
+use Rattle.serving.proofs.call.advance.Reads as advance-reads
+
+in-rule-requires : tie.Need-in-rule-requires
+in-rule-requires c κs = search needs
+
+returns : tie.Need-returns
+unfolding receiveCall
+returns c = let e = lt-ltb _ _ (c .if1 .taken) in (rw e, rw e, rw e)
+
+returns-2 : tie.Need-returns-2
+unfolding receiveCall inRule
+returns-2 c =
+    let e = le-ltb _ _ (c .before .if1 .left) in
+    let f = sym (c .before .before .in-rule .ensures) ∙ not-true (c .before .before .in-rule .result) (c .if2 .taken) in
+    (rw (e, f), rw (e, f), rw (e, f))
+
+advance-requires : tie.Need-advance-requires
+advance-requires c κs =
+    let q = c .before .before in
+    (sym (q .before .before .in-rule .ensures) ∙ not-false (q .before .before .in-rule .result) (q .if2 .left), search needs)
+
+same-length : tie.Need-same-length
+same-length c = search needs
+
+returns-3 : tie.Need-returns-3
+returns-3 c = c .before .before .advance .ensures
+
+pub serve-spec : {M : Type 1} → statement M
+serve-spec = tie.close (tie.spec in-rule-requires returns returns-2 advance-requires same-length returns-3)
