@@ -50,7 +50,7 @@ fn settle(p: Parts, right: bool, taken: usize, hold: &[u8], out: &mut [u8]) -> S
 }
 
 // A call that is not refused.
-fn advance(p: Parts, hold: &mut [u8; 1024], input: &[u8], out: &mut [u8]) -> Served
+fn advance(mut p: Parts, hold: &mut [u8; 1024], input: &[u8], out: &mut [u8]) -> Served
     requires { ⌜ (partsInRule p ≡ true) × (64 ≤ length (now out)) ⌝ }
     ensures { λ r. ⌜ (outcomeOf (r .answer) ≡ receiveCall (controllerOf p (now (hold .entry))) (now (input .entry)) (now (out .entry)) .answer)
         × (controllerOf (r .parts) (now (hold .exit)) ≡ receiveCall (controllerOf p (now (hold .entry))) (now (input .entry)) (now (out .entry)) .controller)
@@ -59,17 +59,16 @@ fn advance(p: Parts, hold: &mut [u8; 1024], input: &[u8], out: &mut [u8]) -> Ser
     let mut header = p.header;
     put_header(&mut header, p.received, input);
     let t = take(header, p.sum, p.received, hold, p.transfer.held(), input);
-    let mut q = p;
-    q.header = header;
-    q.sum = t.sum;
-    q.received = t.received;
+    p.header = header;
+    p.sum = t.sum;
+    p.received = t.received;
     if !t.complete {
         return Served {
-            parts: q,
+            parts: p,
             answer: Answer::Waiting(t.taken),
         };
     }
-    settle(q, t.right, t.taken, hold, out)
+    settle(p, t.right, t.taken, hold, out)
 }
 
 // The call: it refuses, or goes on.

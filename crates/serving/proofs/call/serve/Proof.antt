@@ -1,8 +1,12 @@
 -- `serve` meets its contract.
 use mathlib.Core.Path.{_≡_, refl, sym, _∙_}
+use mathlib.Core.Bool.{true, false}
+use denote.Ref.{now}
+use lib.Dec.{ltb}
+use lib.ListN.{length}
 use borrow.Author.Tests.{lt-ltb, le-ltb, not-true, not-false}
 use borrow.Author.Needs.{needs}
-use Rattle.controller.specs.Controller.{inRule}
+use Rattle.controller.specs.Controller.{partsInRule, inRule}
 use Rattle.serving.specs.Calls.{receiveCall}
 use Rattle.serving.proofs.call.serve.Statement.{statement}
 use Rattle.serving.proofs.call.serve.Tie as tie
@@ -16,13 +20,17 @@ in-rule-requires c κs = search needs
 
 returns : tie.Need-returns
 unfolding receiveCall
-returns c = let e = lt-ltb _ _ (c .if1 .taken) in (rw e, rw e, rw e)
+returns c =
+    let a = c .before .before .before .before .args in
+    let e : ltb (length (now (a .out))) 64 ≡ true = lt-ltb _ _ (c .if1 .taken) in
+    (rw e, rw e, rw e)
 
 returns-2 : tie.Need-returns-2
 unfolding receiveCall inRule
 returns-2 c =
-    let e = le-ltb _ _ (c .before .if1 .left) in
-    let f = sym (c .before .before .in-rule .ensures) ∙ not-true (c .before .before .in-rule .result) (c .if2 .taken) in
+    let a = c .before .before .before .before .before .args in
+    let e : ltb (length (now (a .out))) 64 ≡ false = le-ltb _ _ (c .before .if1 .left) in
+    let f : partsInRule (a .p) ≡ false = sym (c .before .before .in-rule .ensures) ∙ not-true (c .before .before .in-rule .result) (c .if2 .taken) in
     (rw (e, f), rw (e, f), rw (e, f))
 
 advance-requires : tie.Need-advance-requires
