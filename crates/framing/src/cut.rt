@@ -1,11 +1,11 @@
 // A stream that is cut into pieces, held against the same stream handed over whole.
-use crate::rewrite::same;
 use crate::say::case;
-use crate::say::count;
-use crate::say::text;
+use check::same;
 use packet::Received;
 use packet::Receiver;
 use receiving::receive;
+use saying::count;
+use saying::text_if;
 ghost use Prim.Native.Nat.{_≤_, _<_};
 ghost use lib.ListN.{length};
 
@@ -19,10 +19,18 @@ fn in_piece(left: usize, at: usize, piece: usize) -> usize
     if n < left { n } else { left }
 }
 
-// The answer of a run that went wrong: no byte was taken.
-fn nothing(r: Receiver) -> Received {
+// How many bytes a call took of those that it was given. It is 0 where it took more, and no loop
+// over such calls would end.
+fn within(taken: usize, given: usize) -> usize
+    ensures { λ r. ⌜ r ≤ given ⌝ }
+{
+    if given < taken { 0 } else { taken }
+}
+
+// The answer where no packet is complete.
+fn incomplete(taken: usize, r: Receiver) -> Received {
     Received {
-        taken: 0,
+        taken: taken,
         complete: false,
         right: false,
         receiver: r,
@@ -40,15 +48,11 @@ fn in_pieces(start: Receiver, b: &[u8], from: usize, piece: usize) -> Received
         let n = in_piece(b.len() - at, at, piece);
         let end = at + n;
         let t = receive(r, 0, &b[at..end]);
-        let taken = t.taken;
         let q = t.receiver;
         r = q;
-        // A call that takes no byte, or more than it was given, would not let the loop end.
+        let taken = within(t.taken, n);
         if taken == 0 {
-            return nothing(r);
-        }
-        if n < taken {
-            return nothing(r);
+            return incomplete(0, r);
         }
         at += taken;
         if t.complete {
@@ -60,12 +64,7 @@ fn in_pieces(start: Receiver, b: &[u8], from: usize, piece: usize) -> Received
             };
         }
     }
-    Received {
-        taken: at - from,
-        complete: false,
-        right: false,
-        receiver: r,
-    }
+    incomplete(at - from, r)
 }
 
 // The two receivers are the same, byte for byte.
@@ -117,11 +116,8 @@ fn is_same(b: &[u8], piece: usize) -> bool
         if !t.complete {
             return true;
         }
-        let taken = t.taken;
+        let taken = within(t.taken, b.len() - at);
         if taken == 0 {
-            return false;
-        }
-        if b.len() - at < taken {
             return false;
         }
         at += taken;
@@ -137,9 +133,7 @@ pub fn compare(number: usize, b: &[u8], piece: usize)
 {
     case(number);
     count(b"in pieces of ", piece);
-    if is_same(b, piece) {
-        text(b": cut same\n");
-    } else {
-        text(b": cut differs\n");
-    }
+    let is = is_same(b, piece);
+    text_if(is, b": cut same\n");
+    text_if(!is, b": cut differs\n");
 }

@@ -1,20 +1,12 @@
-// The parts of a line.
+// The parts of a line that only this program has.
 use libc::STDOUT_FILENO;
-
-pub fn text(t: &[u8]) {
-    io::write_all(STDOUT_FILENO, t);
-}
+use saying::count;
+use saying::text;
 
 // What each line starts with.
 pub fn case(number: usize) {
     count(b"case ", number);
     text(b" ");
-}
-
-// A number behind its name.
-pub fn count(name: &[u8], n: usize) {
-    text(name);
-    io::print_decimal(STDOUT_FILENO, n as u64);
 }
 
 // A byte behind its name.

@@ -3,12 +3,13 @@ use crate::rewrite::rewritten;
 use crate::say::byte;
 use crate::say::bytes;
 use crate::say::case;
-use crate::say::count;
 use crate::say::next;
-use crate::say::text;
 use packet::Receiver;
 use receiving::receive;
-ghost use Prim.Native.Nat.{_≤_, _<_};
+use saying::count;
+use saying::text;
+use saying::text_if;
+ghost use Prim.Native.Nat.{_+_, _≤_};
 ghost use lib.ListN.{length};
 
 // How many payload bytes a line shows, at most.
@@ -16,13 +17,6 @@ const SHOWN: usize = 8;
 
 // At how many places of a stream the next packet is asked for, at most.
 const PLACES: usize = 12;
-
-// The number of two bytes, least significant first.
-pub fn word(lo: u8, hi: u8) -> usize
-    ensures { λ r. ⌜ r < 65536 ⌝ }
-{
-    (lo as usize) + 256 * (hi as usize)
-}
 
 fn lesser(a: usize, b: usize) -> usize
     ensures { λ r. ⌜ (r ≤ a) × (r ≤ b) ⌝ }
@@ -59,53 +53,78 @@ fn held(hold: &[u8], n: usize) {
     bytes(&hold[0..shown]);
 }
 
-// The fields of a complete packet.
-fn fields(r: Receiver, is_right: bool) {
-    let h = r.header;
+// Whether the checksum of a complete packet was right.
+fn checksum(is_right: bool) {
+    text_if(is_right, b" checksum right");
+    text_if(!is_right, b" checksum wrong");
+}
+
+// The header of a complete packet, and what the hold has of its payload.
+fn fields(h: [u8; 6], hold: &[u8], is_right: bool) {
     byte(b" type ", h[0]);
     byte(b" cmd1 ", h[1]);
     byte(b" cmd2 ", h[2]);
     byte(b" flags ", h[3]);
-    let n = word(h[4], h[5]);
+    let n = packet::word(h[4], h[5]);
     count(b" payload ", n);
-    if is_right {
-        text(b" checksum right");
-    } else {
-        text(b" checksum wrong");
-    }
-    let hold = r.hold;
-    held(&hold, n);
+    checksum(is_right);
+    held(hold, n);
 }
 
-// The line of a complete packet, which stands at b's places from `at` to before `end`.
-fn complete(number: usize, b: &[u8], at: usize, end: usize, is_right: bool, r: Receiver)
-    requires { ⌜ (at ≤ end) × (end ≤ length (now b)) ⌝ }
-{
+// What the line of a complete packet starts with.
+fn place(number: usize, at: usize, size: usize) {
     case(number);
     count(b"packet at ", at);
-    count(b" size ", end - at);
-    fields(r, is_right);
+    count(b" size ", size);
+}
+
+// The line of a complete packet of this header, its payload in the hold, which is b's n bytes from
+// `at` on.
+fn line(number: usize, b: &[u8], at: usize, n: usize, h: [u8; 6], hold: &[u8], is_right: bool)
+    requires { ⌜ at + n ≤ length (now b) ⌝ }
+{
+    place(number, at, n);
+    fields(h, hold, is_right);
     text(b"; next");
     next(b, at);
-    text(b"; rewritten ");
-    rewritten(&b[at..end], r);
+    let end = at + n;
+    rewritten(&b[at..end], h, hold);
     text(b"\n");
 }
 
-// The line of what is left behind the last complete packet, of which `taken` bytes were taken and
-// `received` are counted by the receiver.
-fn unfinished(number: usize, b: &[u8], at: usize, taken: usize, received: usize)
-    requires { ⌜ at ≤ length (now b) ⌝ }
+// The same, of the packet in a receiver.
+fn complete(number: usize, b: &[u8], at: usize, n: usize, r: Receiver, is_right: bool)
+    requires { ⌜ at + n ≤ length (now b) ⌝ }
 {
+    let h = r.header;
+    let hold = r.hold;
+    line(number, b, at, n, h, &hold, is_right);
+}
+
+// The line of the `left` bytes at `at`, behind the last complete packet, of which `taken` bytes were
+// taken and `received` are counted by the receiver.
+fn unfinished(number: usize, at: usize, left: usize, taken: usize, received: usize) {
     case(number);
     count(b"left ", received);
     count(b" at ", at);
-    if taken < b.len() - at {
-        text(b" and not all of it taken");
-    }
+    text_if(taken < left, b" and not all of it taken");
+    text_if(left < taken, b" and more was taken than given");
     text(b"; next");
-    next(b, at);
-    text(b"\n");
+}
+
+// The size of a packet that was complete with so many bytes taken of those that were left. It is 0
+// where that cannot be.
+fn size(taken: usize, left: usize) -> usize
+    ensures { λ r. ⌜ r ≤ left ⌝ }
+{
+    if left < taken {
+        text(b"more bytes were taken than given\n");
+        return 0;
+    }
+    if taken == 0 {
+        text(b"a packet was complete with no byte taken\n");
+    }
+    taken
 }
 
 // The packets of a stream, in one call for each, and what is left. The last call is on the rest
@@ -114,24 +133,21 @@ pub fn packets(number: usize, b: &[u8]) {
     let mut r = Receiver::fresh();
     let mut at: usize = 0;
     while at <= b.len() {
+        let left = b.len() - at;
         let t = receive(r, 0, &b[at..]);
-        let taken = t.taken;
         let q = t.receiver;
-        if b.len() - at < taken {
-            text(b"more bytes were taken than given\n");
-            return;
-        }
         if !t.complete {
-            unfinished(number, b, at, taken, q.received);
+            unfinished(number, at, left, t.taken, q.received);
+            next(b, at);
+            text(b"\n");
             return;
         }
-        if taken == 0 {
-            text(b"a packet was complete with no byte taken\n");
+        let n = size(t.taken, left);
+        if n == 0 {
             return;
         }
-        let end = at + taken;
-        complete(number, b, at, end, t.right, q);
-        at = end;
+        complete(number, b, at, n, q, t.right);
+        at += n;
         r = q;
     }
 }

@@ -1,17 +1,8 @@
 // The line that tells the answer to a report.
-use libc::STDOUT_FILENO;
 use records::Outcome;
 use report::Checked;
-
-fn text(t: &[u8]) {
-    io::write_all(STDOUT_FILENO, t);
-}
-
-// A number behind its name.
-fn count(name: &[u8], n: usize) {
-    text(name);
-    io::print_decimal(STDOUT_FILENO, n as u64);
-}
+use saying::count;
+use saying::text;
 
 // Writes `accepted trial N score S` or `refused N at P`, and a newline.
 pub fn tell(c: Checked) {

@@ -4,7 +4,7 @@
 // least significant first. `scripts/reports-data` makes it, and the text that this program must
 // write, from the vectors alone: a line for each report. The proofs of this crate say only that the
 // program is safe and ends.
-use libc::STDOUT_FILENO;
+use saying::text;
 
 // The longest report that is tried has 65,535 bytes.
 const ROOM: usize = 65536;
@@ -12,10 +12,6 @@ const ROOM: usize = 65536;
 // How many reports are read, at most; more are reported. The loop over them has to end, and nothing
 // says that a file does.
 const REPORTS: usize = 65536;
-
-fn say(t: &[u8]) {
-    io::write_all(STDOUT_FILENO, t);
-}
 
 // The next report's bytes are read to the start of b and checked; false where the file has ended.
 fn one(fd: i32, b: &mut [u8]) -> bool {
@@ -26,11 +22,11 @@ fn one(fd: i32, b: &mut [u8]) -> bool {
     }
     let n = packet::word(head[0], head[1]);
     if b.len() < n {
-        say(b"a report is too long for the buffer\n");
+        text(b"a report is too long for the buffer\n");
         return false;
     }
     if io::read_full(fd, &mut b[0..n]) < n {
-        say(b"a report is cut short\n");
+        text(b"a report is cut short\n");
         return false;
     }
     line::tell(report::check(&b[0..n]));
@@ -46,7 +42,7 @@ fn all(fd: i32, b: &mut [u8]) {
         }
         i += 1;
     }
-    say(b"no more reports are read\n");
+    text(b"no more reports are read\n");
 }
 
 fn main() {

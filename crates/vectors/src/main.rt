@@ -1,20 +1,19 @@
 // Holds the command layer to answers that were worked out without it.
 //
 // The file `packets.bin` has packets with what each draws, and `streams.bin` streams of bytes with
-// what each leads to. `scripts/vectors-data` makes both, and the text that this program must write,
+// what each leads to, each in rows. `scripts/vectors-data` makes both, and the text that this program must write,
 // from the vectors alone. A case that differs gets a line with its number, counted from 1, and each
 // file a line with its counts. The proofs of this crate say only that the program is safe and ends.
-mod compare;
 mod difference;
+mod outcome;
 mod packets;
 mod row;
 mod run;
-mod say;
 mod streams;
 
-use difference::Outcome;
-use say::count;
-use say::text;
+use outcome::Outcome;
+use saying::count;
+use saying::text;
 ghost use Prim.Native.Nat.{_≤_};
 
 // What a row of a file is.
@@ -52,11 +51,12 @@ fn all_rows(kind: Kind, fd: i32, b: &mut [u8]) -> Tally
     let mut differ: usize = 0;
     let mut cuts: usize = 0;
     while rows < ROWS {
-        let n = row::next(fd, rows + 1, b);
-        if n == 0 {
+        let row = rows::next(fd, rows + 1, b);
+        if !row.found {
             return Tally { rows, differ, cuts };
         }
         rows += 1;
+        let n = row.length;
         let o = one_row(kind, rows, &b[0..n]);
         differ += o.differ;
         cuts += o.cuts;

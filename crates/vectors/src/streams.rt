@@ -3,9 +3,10 @@
 // A row has five fields: the host bytes, all responses joined, the standard list of the settings at
 // the end, how many bytes of an unfinished packet have come in, as a number of four bytes, and the
 // open transfer, which is CMD1, CMD2 and the held data, or nothing.
-use crate::compare::starts_as;
-use crate::difference::Difference;
-use crate::difference::Outcome;
+use crate::difference;
+use crate::difference::first;
+use crate::difference::unless;
+use crate::outcome::Outcome;
 use crate::row::field;
 use crate::row::has_fields;
 use crate::row::number_at;
@@ -15,11 +16,13 @@ use crate::run::byte_by_byte;
 use crate::run::feed;
 use crate::run::in_two;
 use crate::run::start;
-use crate::say::count;
-use crate::say::text;
+use command::Controller;
 use encoder::Encoded;
 use judging::TransferState;
 use packet::Receiver;
+use rows::starts_as;
+use saying::count;
+use saying::text;
 use settings::Settings;
 ghost use Prim.Native.Nat.{_≤_};
 ghost use lib.ListN.{length};
@@ -44,66 +47,67 @@ fn number_is(n: usize, f: &[u8]) -> bool {
     n == number_at(f, 0)
 }
 
-// The receiver's hold has the held data.
-fn transfer_is(t: TransferState, r: Receiver, f: &[u8]) -> bool {
-    let is_open = t.active != 0;
+// The transfer of these values, with its data at the start of the hold.
+fn transfer_is(active: u8, cmd1: u8, cmd2: u8, held: usize, hold: &[u8], f: &[u8]) -> bool {
+    let is_open = active != 0;
     if f.len() < 2 {
         return (f.len() == 0) & !is_open;
     }
-    if !is_open | (t.cmd1 != f[0]) | (t.cmd2 != f[1]) {
+    if !is_open | (cmd1 != f[0]) | (cmd2 != f[1]) {
         return false;
     }
-    let held = t.held;
+    starts_as(hold, held, &f[2..])
+}
+
+// The receiver's hold has the held data.
+fn open_is(t: TransferState, r: Receiver, f: &[u8]) -> bool {
     let hold = r.hold;
-    starts_as(&hold, held, &f[2..])
+    transfer_is(t.active, t.cmd1, t.cmd2, t.held, &hold, f)
+}
+
+// What the controller differs in at the end.
+fn end(c: Controller, row: &[u8]) -> u8 {
+    let s = c.settings;
+    let list = unless(list_is(s, field(row, 2)), difference::LIST);
+    let r = c.receiver;
+    let unfinished = unless(number_is(r.received, field(row, 3)), difference::UNFINISHED);
+    let t = c.transfer;
+    let transfer = unless(open_is(t, r, field(row, 4)), difference::TRANSFER);
+    first(list, first(unfinished, transfer))
 }
 
 // What a run over the row's host bytes differs in.
-fn difference(r: Run, out: &[u8], row: &[u8]) -> Difference {
-    if !r.right {
-        return Difference::Call;
-    }
-    let written = r.written;
-    if !starts_as(out, written, field(row, 1)) {
-        return Difference::Responses;
-    }
+fn differs(r: Run, out: &[u8], row: &[u8]) -> u8 {
+    let call = unless(r.right, difference::CALL);
+    let responses = unless(
+        starts_as(out, r.written, field(row, 1)),
+        difference::RESPONSES,
+    );
     let c = r.controller;
-    let settings = c.settings;
-    if !list_is(settings, field(row, 2)) {
-        return Difference::List;
-    }
-    let receiver = c.receiver;
-    if !number_is(receiver.received, field(row, 3)) {
-        return Difference::Unfinished;
-    }
-    let transfer = c.transfer;
-    if !transfer_is(transfer, receiver, field(row, 4)) {
-        return Difference::Transfer;
-    }
-    Difference::Nothing
+    first(call, first(responses, end(c, row)))
 }
 
 // The stream in one piece.
-fn whole(row: &[u8]) -> Difference {
+fn whole(row: &[u8]) -> u8 {
     let mut out = [0u8; ROOM];
     let r = feed(start(), field(row, 0), &mut out);
-    difference(r, &out, row)
+    differs(r, &out, row)
 }
 
 // The stream in pieces of one byte.
-fn in_bytes(row: &[u8]) -> Difference {
+fn in_bytes(row: &[u8]) -> u8 {
     let mut out = [0u8; ROOM];
     let r = byte_by_byte(field(row, 0), &mut out);
-    difference(r, &out, row)
+    differs(r, &out, row)
 }
 
 // The stream cut behind its first k bytes.
-fn cut(host: &[u8], k: usize, row: &[u8]) -> Difference
+fn cut(host: &[u8], k: usize, row: &[u8]) -> u8
     requires { ⌜ k ≤ length (now host) ⌝ }
 {
     let mut out = [0u8; ROOM];
     let r = in_two(host, k, &mut out);
-    difference(r, &out, row)
+    differs(r, &out, row)
 }
 
 // The last place at which a stream of n bytes is cut.
@@ -122,8 +126,8 @@ fn cuts(number: usize, host: &[u8], row: &[u8]) -> Outcome
     let mut k: usize = 0;
     while k <= last {
         let d = cut(host, k, row);
-        if !d.is_nothing() {
-            d.tell(b"streams", number);
+        if d != difference::NOTHING {
+            difference::tell(b"streams", number, d);
             count(b", cut at ", k);
             text(b"\n");
             return Outcome { differ: 1, cuts: k };
@@ -134,10 +138,10 @@ fn cuts(number: usize, host: &[u8], row: &[u8]) -> Outcome
 }
 
 // The line of a stream that differs before it is cut.
-fn uncut(number: usize, d: Difference, how: &[u8]) -> Outcome
+fn uncut(number: usize, d: u8, how: &[u8]) -> Outcome
     ensures { λ r. ⌜ (r .differ ≤ 1) × (r .cuts ≤ 65) ⌝ }
 {
-    d.tell(b"streams", number);
+    difference::tell(b"streams", number, d);
     text(how);
     Outcome { differ: 1, cuts: 0 }
 }
@@ -147,14 +151,14 @@ pub fn try_row(number: usize, row: &[u8]) -> Outcome
     ensures { λ r. ⌜ (r .differ ≤ 1) × (r .cuts ≤ 65) ⌝ }
 {
     if !has_fields(row, 5) {
-        return uncut(number, Difference::Row, b"\n");
+        return uncut(number, difference::ROW, b"\n");
     }
     let d = whole(row);
-    if !d.is_nothing() {
+    if d != difference::NOTHING {
         return uncut(number, d, b", whole\n");
     }
     let e = in_bytes(row);
-    if !e.is_nothing() {
+    if e != difference::NOTHING {
         return uncut(number, e, b", byte by byte\n");
     }
     cuts(number, field(row, 0), row)

@@ -18,14 +18,26 @@ loop-holds c = search needs
 add-number : tie.Need-add-number Inv-loop μ-loop
 add-number c = search needs
 
-next-case-requires : tie.Need-next-case-requires Inv-loop μ-loop
-next-case-requires c κs = search needs
+next-requires : tie.Need-next-requires Inv-loop μ-loop
+next-requires c κs = search needs
 
 same-length : tie.Need-same-length Inv-loop μ-loop
 same-length c = search needs
 
 returns : tie.Need-returns Inv-loop μ-loop
 returns c = search needs
+
+sub-one-case : tie.Need-sub-one-case Inv-loop μ-loop
+sub-one-case c = search needs
+
+part-one-case-start : tie.Need-part-one-case-start Inv-loop μ-loop
+part-one-case-start c = search needs
+
+part-one-case-end : tie.Need-part-one-case-end Inv-loop μ-loop
+part-one-case-end c = search needs
+
+one-case-requires : tie.Need-one-case-requires Inv-loop μ-loop
+one-case-requires c κs = search needs
 
 loop-less : tie.Need-loop-less Inv-loop μ-loop
 loop-less c = search needs
@@ -47,9 +59,13 @@ all-cases-spec =
     μ-loop
     loop-holds
     add-number
-    next-case-requires
+    next-requires
     same-length
     returns
+    sub-one-case
+    part-one-case-start
+    part-one-case-end
+    one-case-requires
     loop-less
     loop-again
     same-length-2

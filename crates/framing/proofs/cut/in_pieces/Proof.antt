@@ -35,17 +35,14 @@ part-receive-end c = search needs
 receive-requires : tie.Need-receive-requires Inv-loop μ-loop
 receive-requires c κs = search needs
 
-nothing-requires : tie.Need-nothing-requires Inv-loop μ-loop
-nothing-requires c κs = search needs
+within-requires : tie.Need-within-requires Inv-loop μ-loop
+within-requires c κs = search needs
+
+incomplete-requires : tie.Need-incomplete-requires Inv-loop μ-loop
+incomplete-requires c κs = search needs
 
 returns : tie.Need-returns Inv-loop μ-loop
 returns c = search needs
-
-nothing-requires-2 : tie.Need-nothing-requires-2 Inv-loop μ-loop
-nothing-requires-2 c κs = search needs
-
-returns-2 : tie.Need-returns-2 Inv-loop μ-loop
-returns-2 c = search needs
 
 add-at : tie.Need-add-at Inv-loop μ-loop
 add-at c = search needs
@@ -53,8 +50,8 @@ add-at c = search needs
 sub-t18 : tie.Need-sub-t18 Inv-loop μ-loop
 sub-t18 c = search needs
 
-returns-3 : tie.Need-returns-3 Inv-loop μ-loop
-returns-3 c = search needs
+returns-2 : tie.Need-returns-2 Inv-loop μ-loop
+returns-2 c = search needs
 
 loop-less : tie.Need-loop-less Inv-loop μ-loop
 loop-less c = search needs
@@ -62,11 +59,14 @@ loop-less c = search needs
 loop-again : tie.Need-loop-again Inv-loop μ-loop
 loop-again c = search needs
 
-sub-t19 : tie.Need-sub-t19 Inv-loop μ-loop
-sub-t19 c = search needs
+sub-incomplete : tie.Need-sub-incomplete Inv-loop μ-loop
+sub-incomplete c = search needs
 
-returns-4 : tie.Need-returns-4 Inv-loop μ-loop
-returns-4 c = search needs
+incomplete-requires-2 : tie.Need-incomplete-requires-2 Inv-loop μ-loop
+incomplete-requires-2 c κs = search needs
+
+returns-3 : tie.Need-returns-3 Inv-loop μ-loop
+returns-3 c = search needs
 
 pub in-pieces-spec : {M : Type 1} → statement M
 in-pieces-spec =
@@ -82,14 +82,14 @@ in-pieces-spec =
     part-receive-start
     part-receive-end
     receive-requires
-    nothing-requires
+    within-requires
+    incomplete-requires
     returns
-    nothing-requires-2
-    returns-2
     add-at
     sub-t18
-    returns-3
+    returns-2
     loop-less
     loop-again
-    sub-t19
-    returns-4)
+    sub-incomplete
+    incomplete-requires-2
+    returns-3)

@@ -6,16 +6,19 @@ use Rattle.framing.proofs.show.packets.Statement.{statement}
 use Rattle.framing.proofs.show.packets.Tie as tie
 
 abbrev Inv-loop : tie.InvT-loop
-Inv-loop number b r₀ at₀ t9 t10 r at = at ≤ length b
+Inv-loop number b r₀ at₀ t9 r at = at ≤ length b
 
 abbrev μ-loop : tie.MeasureT-loop
-μ-loop number b r₀ at₀ t9 t10 r at = suc (length b) - at
+μ-loop number b r₀ at₀ t9 r at = suc (length b) - at
 
 fresh-requires : tie.Need-fresh-requires Inv-loop μ-loop
 fresh-requires c κs = search needs
 
 loop-holds : tie.Need-loop-holds Inv-loop μ-loop
 loop-holds c = search needs
+
+sub-left : tie.Need-sub-left Inv-loop μ-loop
+sub-left c = search needs
 
 sub-receive : tie.Need-sub-receive Inv-loop μ-loop
 sub-receive c = search needs
@@ -29,8 +32,11 @@ part-receive-end c = search needs
 receive-requires : tie.Need-receive-requires Inv-loop μ-loop
 receive-requires c κs = search needs
 
-sub-if1 : tie.Need-sub-if1 Inv-loop μ-loop
-sub-if1 c = search needs
+unfinished-requires : tie.Need-unfinished-requires Inv-loop μ-loop
+unfinished-requires c κs = search needs
+
+next-requires : tie.Need-next-requires Inv-loop μ-loop
+next-requires c κs = search needs
 
 slice-aggregate-text : tie.Need-slice-aggregate-text Inv-loop μ-loop
 slice-aggregate-text c = search needs
@@ -41,26 +47,17 @@ text-requires c κs = search needs
 returns : tie.Need-returns Inv-loop μ-loop
 returns c = search needs
 
-unfinished-requires : tie.Need-unfinished-requires Inv-loop μ-loop
-unfinished-requires c κs = search needs
+size-requires : tie.Need-size-requires Inv-loop μ-loop
+size-requires c κs = search needs
 
 returns-2 : tie.Need-returns-2 Inv-loop μ-loop
 returns-2 c = search needs
 
-slice-aggregate-text-2 : tie.Need-slice-aggregate-text-2 Inv-loop μ-loop
-slice-aggregate-text-2 c = search needs
-
-text-requires-2 : tie.Need-text-requires-2 Inv-loop μ-loop
-text-requires-2 c κs = search needs
-
-returns-3 : tie.Need-returns-3 Inv-loop μ-loop
-returns-3 c = search needs
-
-add-end : tie.Need-add-end Inv-loop μ-loop
-add-end c = search needs
-
 complete-requires : tie.Need-complete-requires Inv-loop μ-loop
 complete-requires c κs = search needs
+
+add-at : tie.Need-add-at Inv-loop μ-loop
+add-at c = search needs
 
 loop-less : tie.Need-loop-less Inv-loop μ-loop
 loop-less c = search needs
@@ -68,8 +65,8 @@ loop-less c = search needs
 loop-again : tie.Need-loop-again Inv-loop μ-loop
 loop-again c = search needs
 
-returns-4 : tie.Need-returns-4 Inv-loop μ-loop
-returns-4 c = search needs
+returns-3 : tie.Need-returns-3 Inv-loop μ-loop
+returns-3 c = search needs
 
 pub packets-spec : {M : Type 1} → statement M
 packets-spec =
@@ -79,21 +76,20 @@ packets-spec =
     μ-loop
     fresh-requires
     loop-holds
+    sub-left
     sub-receive
     part-receive-start
     part-receive-end
     receive-requires
-    sub-if1
+    unfinished-requires
+    next-requires
     slice-aggregate-text
     text-requires
     returns
-    unfinished-requires
+    size-requires
     returns-2
-    slice-aggregate-text-2
-    text-requires-2
-    returns-3
-    add-end
     complete-requires
+    add-at
     loop-less
     loop-again
-    returns-4)
+    returns-3)

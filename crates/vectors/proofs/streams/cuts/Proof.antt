@@ -20,9 +20,6 @@ loop-holds c = search needs
 cut-requires : tie.Need-cut-requires Inv-loop μ-loop
 cut-requires c κs = search needs
 
-is-nothing-requires : tie.Need-is-nothing-requires Inv-loop μ-loop
-is-nothing-requires c κs = search needs
-
 slice-aggregate-tell : tie.Need-slice-aggregate-tell Inv-loop μ-loop
 slice-aggregate-tell c = search needs
 
@@ -65,7 +62,6 @@ cuts-spec =
     last-place-requires
     loop-holds
     cut-requires
-    is-nothing-requires
     slice-aggregate-tell
     tell-requires
     slice-aggregate-count
