@@ -129,15 +129,6 @@ pub fn feed(r: Run, b: &[u8], out: &mut [u8]) -> Run
     }
 }
 
-// Hands b over in two pieces, the first of k bytes.
-pub fn in_two(b: &[u8], k: usize, out: &mut [u8]) -> Run
-    requires { ⌜ k ≤ length (now b) ⌝ }
-    ensures { λ s. ⌜ s .written ≤ length (now (out .exit)) ⌝ }
-{
-    let first = feed(start(), &b[0..k], out);
-    feed(first, &b[k..], out)
-}
-
 // Hands b over in pieces of one byte.
 pub fn byte_by_byte(b: &[u8], out: &mut [u8]) -> Run
     ensures { λ s. ⌜ s .written ≤ length (now (out .exit)) ⌝ }

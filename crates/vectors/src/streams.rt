@@ -14,7 +14,6 @@ use crate::run::ROOM;
 use crate::run::Run;
 use crate::run::byte_by_byte;
 use crate::run::feed;
-use crate::run::in_two;
 use crate::run::start;
 use command::Controller;
 use encoder::Encoded;
@@ -106,7 +105,8 @@ fn cut(host: &[u8], k: usize, row: &[u8]) -> u8
     requires { ⌜ k ≤ length (now host) ⌝ }
 {
     let mut out = [0u8; ROOM];
-    let r = in_two(host, k, &mut out);
+    let before = feed(start(), &host[0..k], &mut out);
+    let r = feed(before, &host[k..], &mut out);
     differs(r, &out, row)
 }
 
