@@ -1,18 +1,15 @@
 -- `advance` meets its contract.
 use mathlib.Core.Path.{_≡_, refl, sym, ap, _∙_}
-use borrow.Author.Tests.{lt-ltb, le-ltb, not-true, not-false}
+use borrow.Author.Tests.{le-ltb, not-true, not-false}
 use denote.Ref.{now}
 use Prim.Native.Nat.{ℕ, _≤_}
-use mathlib.Core.Bool.{Bool, true, false}
+use mathlib.Core.Bool.{true, false}
 use mathlib.Core.List.{List}
 use lib.ListN.{length}
 use Rattle.packet.specs.Receiving.{receiving}
-use Rattle.packet.specs.declared.receiver.Receiver.{Receiver}
 use Rattle.packet.specs.declared.receiver.Received.{Received}
 use Rattle.packet.proofs.Lent.{together, taken-is}
-use Rattle.settings.specs.declared.settings.Settings.{Settings}
 use Rattle.judging.specs.Held.{heldIn}
-use Rattle.judging.specs.declared.transfer.TransferState.{TransferState}
 use Rattle.controller.specs.Controller.{controllerOf, inRule}
 use Rattle.serving.specs.Calls.{judgedIn, responseIn, After, waiting, settled, receiveCall}
 use Rattle.controller.specs.declared.controller.Controller.{Controller}
