@@ -1,4 +1,4 @@
--- `head_encode` meets its contract: of a command in the table that of `command::encode`, its answer as numbers.
+-- `head_encode` meets its contract: of a command in the table that of `encoder::encode`, its answer as numbers.
 use mathlib.Core.Path.{_≡_, ap, sym, _∙_}
 use denote.Ref.{now}
 use borrow.Author.Needs.{needs}
