@@ -1,42 +1,37 @@
 -- The receive call on a head that is in rule: it stays in rule, and cutting a stream changes nothing.
-use Prim.Native.Nat.{ℕ, zero, suc, _+_, _-_, _<_, _≤_, max}
-use mathlib.Core.Path.{_≡_, refl, ap, ap₂, sym, subst, _∙_}
+use Prim.Native.Nat.{ℕ, _+_, _-_, _<_, _≤_, max}
+use mathlib.Core.Path.{_≡_, refl, ap, sym, subst, _∙_}
 use mathlib.Core.Bool.{Bool, true, false, cond}
 use mathlib.Core.List.{List, [], _∷_, _++_}
 use mathlib.Core.Option.{Option, none, some}
 use native.Mathlib.Omega.{arith}
-use lib.Dec.{eqb, ltb, leb}
+use lib.Dec.{ltb}
 use borrow.Author.Tests.{lt-ltb, le-ltb, ltb-true, ltb-false, le-leb}
-use lib.ListN.{length, getD, take, drop, length-append}
-use lib.Seq.{sets, take-at}
+use lib.ListN.{length, take}
+use lib.Seq.{sets}
 use Rattle.packet.specs.Packet.{payloadLength}
-use Rattle.packet.specs.Receiving.{with, between, missing, waiting as receiverWaiting, completed, receiving}
-use Rattle.writer.specs.Writing.{written}
-use Rattle.packet.specs.Calls.{Call, Served, andThen, callsOn, servedOne, served, joined}
+use Rattle.packet.specs.Receiving.{with, missing, waiting as receiverWaiting, completed}
+use Rattle.packet.specs.Calls.{Call, servedOne, served, joined}
 use Rattle.packet.specs.declared.receiver.Receiver.{Receiver}
 use Rattle.packet.specs.declared.receiver.Received.{Received}
 use Rattle.packet.proofs.Cases.{bool-cases, cond-cases}
 use Rattle.packet.proofs.Receiving.{Made, made-with, made-between, with-nil, missing-least, after, cut, behind, waits, completes}
 use Rattle.packet.proofs.Calls.{Streaming, shifted, in-pieces}
-use Rattle.settings.specs.Table.{cmd1For, cmd2For, commandOf, isKnown}
-use Rattle.judging.specs.Judging.{Transfer, Closed, Opened, Arrived, held, faults, anyFault, judgeData, judge, settingsAfter}
-use Rattle.judging.specs.Held.{noTransfer, heldIn, transferIn, transferInRule, packetIn, transferStateAfter}
+use Rattle.settings.specs.Table.{commandOf}
+use Rattle.judging.specs.Judging.{Transfer, Arrived, held, faults, anyFault, judgeData, judge, settingsAfter}
+use Rattle.judging.specs.Held.{heldIn, transferIn, transferInRule, transferStateAfter}
 use Rattle.controller.specs.Controller.{packetInRule, inRule}
-use Rattle.serving.specs.Calls.{Outcome, Refuses, Waits, Answers, arrivedIn, judgedIn, carriedOut, responseIn, takenBy, After, refused, waiting, answered, receiveCall}
-use Rattle.settings.specs.declared.settings.Settings.{Settings}
-use Rattle.settings.specs.declared.command.Command.{Command}
-use Rattle.settings.specs.declared.command.Found.{Found}
-use Rattle.settings.specs.declared.command.Found.the-variants.{Known, Unknown}
+use Rattle.serving.specs.Calls.{Outcome, Refuses, Waits, Answers, arrivedIn, judgedIn, carriedOut, responseIn, takenBy, After, waiting, answered, receiveCall}
 use Rattle.judging.specs.declared.judge.Judgement.{Judgement}
 use Rattle.judging.specs.declared.judge.Judgement.the-variants.{Refuse, Hold, Write, Read}
 use Rattle.judging.specs.declared.transfer.TransferState.{TransferState}
 use Rattle.controller.specs.declared.controller.Controller.{Controller}
 use Rattle.controller.proofs.Rule.{Rule, rule-parts, rule-whole}
 use Rattle.settings.proofs.Commands.{found}
-use Rattle.settings.proofs.Keeping.{Kept, kept-by, in-rule-of}
-use Rattle.judging.proofs.Judgements.{Sound, sound}
+use Rattle.settings.proofs.Keeping.{kept-by, in-rule-of}
+use Rattle.judging.proofs.Judgements.{sound}
 use Rattle.judging.proofs.Plays.{kept-judgement}
-use Rattle.judging.proofs.Holding.{fits-hold, held-length, held-most}
+use Rattle.judging.proofs.Holding.{fits-hold, held-length}
 
 -- what a call shows of its answer: the bytes taken, and the response at the output's start
 abbrev pub takenOf : Outcome → ℕ

@@ -1,25 +1,24 @@
 -- The encoder's packet, sent to a head.
 use Prim.Native.Nat.{ℕ, _≤_}
-use mathlib.Core.Path.{_≡_, refl, ap, sym, subst, _∙_}
-use mathlib.Core.Bool.{Bool, true, false, cond}
-use mathlib.Core.List.{List, [], _∷_, _++_, append-nil}
+use mathlib.Core.Path.{_≡_, ap, sym, _∙_}
+use mathlib.Core.Bool.{true, false}
+use mathlib.Core.List.{List, [], _∷_, append-nil}
 use lib.ListN.{length}
-use Rattle.packet.specs.Packet.{packetOf, writeResponse, whole}
 use Rattle.packet.specs.Stream.{packets}
-use Rattle.packet.specs.Calls.{Served, servedOne}
+use Rattle.packet.specs.Calls.{servedOne}
 use Rattle.packet.proofs.Framing.{IsPacket, packets-nil, packets-cons}
 use Rattle.packet.proofs.Receiving.{Between}
-use Rattle.settings.specs.Table.{cmd1For, cmd2For, layout, allowed}
+use Rattle.settings.specs.Table.{layout, allowed}
 use Rattle.settings.specs.Settings.{blocked, store}
 use Rattle.settings.specs.declared.settings.Settings.{Settings}
 use Rattle.settings.proofs.Commands.{Fit}
-use Rattle.values.specs.Values.{commandIn, valuesIn, dataIn}
+use Rattle.values.specs.Values.{commandIn, valuesIn}
 use Rattle.values.specs.declared.value.Value.{Value}
-use Rattle.judging.specs.Judging.{Closed, Arrived, arrived, modeFault, response}
+use Rattle.judging.specs.Judging.{Closed, arrived, response}
 use Rattle.judging.specs.Playing.{State, from, judged, next, responses, after}
 use Rattle.judging.specs.Held.{transferIn}
-use Rattle.encoder.specs.Encoding.{writePacket, encoded}
-use Rattle.judging.specs.declared.judge.Judgement.the-variants.{Refuse, Write}
+use Rattle.encoder.specs.Encoding.{encoded}
+use Rattle.judging.specs.declared.judge.Judgement.the-variants.{Write}
 use Rattle.controller.specs.declared.controller.Controller.{Controller}
 use Rattle.encoder.proofs.Writes.{encoder-judged}
 use Rattle.command.proofs.Serving.{serves, Ready}

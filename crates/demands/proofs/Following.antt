@@ -1,55 +1,34 @@
 -- From a packet boundary the receive call follows document 01's playing, over whole streams.
-use Prim.Native.Nat.{ℕ, zero, suc, _+_, _-_, _<_, _≤_}
+use Prim.Native.Nat.{ℕ, suc, _+_, _-_, _≤_}
 use mathlib.Core.Path.{_≡_, refl, ap, ap₂, sym, subst, _∙_}
-use mathlib.Core.Bool.{Bool, true, false, cond, not, _&&_, _||_}
+use mathlib.Core.Bool.{Bool, true, false, cond}
 use mathlib.Core.List.{List, [], _∷_, _++_, append-assoc}
-use mathlib.Core.Option.{Option, none, some}
+use mathlib.Core.Option.{some}
 use native.Mathlib.Omega.{arith}
-use native.Mathlib.Nat.{add-zero}
-use lib.Dec.{eqb}
-use borrow.Author.Tests.{eqb-true}
-use lib.ListN.{length, getD, take, drop, set, length-append, length-take, length-drop}
-use lib.Seq.{sets, sets-eq, length-sets, take-set-le, getD-take, take-at, drop-at, length-take-le, take-append-le}
-use Rattle.packet.specs.Packet.{typeOf, cmd1Of, cmd2Of, flagsOf, payloadLength, payload, rightSum}
+use lib.ListN.{length, take, drop, set, length-append, length-drop}
+use lib.Seq.{sets, sets-eq, length-sets, take-set-le, getD-take, take-at, drop-at, length-take-le}
+use Rattle.packet.specs.Packet.{payloadLength, payload}
 use Rattle.packet.specs.Stream.{size, hasPacket, packets, rest}
-use Rattle.packet.specs.Receiving.{with, waiting as receiverWaiting, receiving}
+use Rattle.packet.specs.Receiving.{with, waiting as receiverWaiting}
 use Rattle.writer.specs.Writing.{written}
-use Rattle.packet.specs.Calls.{Call, Served, andThen, callsOn, servedOne, served, joined}
+use Rattle.packet.specs.Calls.{Served, andThen, callsOn, servedOne}
 use Rattle.packet.specs.declared.receiver.Receiver.{Receiver}
 use Rattle.packet.specs.declared.receiver.Received.{Received}
-use Rattle.packet.proofs.Cases.{bool-cases, cond-cases}
 use Rattle.packet.proofs.Framing.{IsPacket, packets-cons, rest-cons, packets-none, rest-none, packet-induction}
-use Rattle.packet.proofs.Receiving.{Made, Between, between-packet, afterPacket, one, first-of, too-few}
+use Rattle.packet.proofs.Receiving.{Between, between-packet, one, first-of, too-few}
 use Rattle.packet.proofs.Calls.{same-calls}
-use Rattle.settings.specs.Table.{cmd1For, cmd2For, commandOf}
-use Rattle.judging.specs.Judging.{
-  Transfer,
-  Closed,
-  Opened,
-  Arrived,
-  arrived,
-  held,
-  faults,
-  anyFault,
-  judgeData,
-  judge,
-  settingsAfter,
-  transferAfter,
-  response,
-}
+use Rattle.settings.specs.Table.{commandOf}
+use Rattle.judging.specs.Judging.{Transfer, Opened, Arrived, arrived, held, faults, anyFault, judgeData, judge, settingsAfter, transferAfter, response}
 use Rattle.judging.specs.Playing.{State, judged, next, responses, after}
-use Rattle.judging.specs.Held.{heldIn, transferIn, transferInRule, packetIn, transferStateAfter}
-use Rattle.serving.specs.Calls.{arrivedIn, judgedIn, carriedOut, responseIn, takenBy, After, waiting, answered, receiveCall}
-use Rattle.settings.specs.declared.settings.Settings.{Settings}
-use Rattle.settings.specs.declared.command.Command.{Command}
+use Rattle.judging.specs.Held.{heldIn, transferIn, transferInRule}
+use Rattle.serving.specs.Calls.{arrivedIn, judgedIn, carriedOut, responseIn, After, waiting, answered, receiveCall}
 use Rattle.settings.specs.declared.command.Found.{Found}
-use Rattle.settings.specs.declared.command.Found.the-variants.{Known, Unknown}
 use Rattle.judging.specs.declared.judge.Judgement.{Judgement}
 use Rattle.judging.specs.declared.judge.Judgement.the-variants.{Refuse, Hold, Write, Read}
 use Rattle.judging.specs.declared.transfer.TransferState.{TransferState}
 use Rattle.controller.specs.declared.controller.Controller.{Controller}
 use Rattle.settings.proofs.Commands.{found}
-use Rattle.judging.proofs.Holding.{fits-hold, by-transfer, none-open, one-open, held-is, held-most, held-length}
+use Rattle.judging.proofs.Holding.{fits-hold, by-transfer, none-open, one-open, held-is, held-length}
 use Rattle.controller.proofs.Rule.{Rule, rule-parts}
 use Rattle.command.proofs.Serving.{serves, shown, Ready, not-refused, stays-in-rule, endpoint-streams, Bounded, bounded}
 

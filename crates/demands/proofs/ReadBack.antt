@@ -1,17 +1,17 @@
 -- A read that follows a write answers the data written.
-use Prim.Native.Nat.{ℕ, _≤_}
-use mathlib.Core.Path.{_≡_, refl, ap, sym, _∙_}
-use mathlib.Core.Bool.{Bool, true, false, cond, not, _&&_, _||_}
-use mathlib.Core.List.{List, [], _∷_}
+use Prim.Native.Nat.{ℕ}
+use mathlib.Core.Path.{_≡_, refl, ap, _∙_}
+use mathlib.Core.Bool.{true, false}
+use mathlib.Core.List.{List, []}
 use native.Mathlib.Omega.{arith}
 use lib.ListN.{length}
 use Rattle.packet.specs.Packet.{packetOf, hostRead, readResponse, whole}
 use Rattle.values.specs.Fields.{joinAll}
 use Rattle.settings.specs.Table.{cmd1For, cmd2For, same, layout, readable, allowed}
-use Rattle.settings.specs.Settings.{valuesOf, blocked, valuesAfter, store}
+use Rattle.settings.specs.Settings.{blocked, valuesAfter, store}
 use Rattle.values.specs.Values.{dataOf}
 use Rattle.judging.specs.Judging.{Closed, Arrived, arrived, wrongCommand, tooLong, wrongOrder, faultsOf, faults, anyFault, judgeRead, judgeData, judge, response}
-use Rattle.judging.specs.Playing.{from, judged, next, responses}
+use Rattle.judging.specs.Playing.{from, judged, next}
 use Rattle.encoder.specs.Encoding.{writePacket}
 use Rattle.settings.specs.declared.settings.Settings.{Settings}
 use Rattle.settings.specs.declared.command.Command.{Command}

@@ -1,10 +1,10 @@
 -- Demand 1: bad packets and bad calls.
 use Prim.Native.Nat.{ℕ, _<_, _≤_}
-use mathlib.Core.Path.{_≡_, refl, ap, sym, subst, _∙_}
-use mathlib.Core.Bool.{Bool, true, false, cond, not, _&&_, _||_}
+use mathlib.Core.Path.{_≡_, refl, subst, _∙_}
+use mathlib.Core.Bool.{Bool, true, false, _&&_, _||_}
 use mathlib.Core.List.{List, [], _∷_}
 use native.Mathlib.Omega.{arith}
-use lib.Dec.{eqb, ltb}
+use lib.Dec.{eqb}
 use borrow.Author.Tests.{lt-ltb, le-ltb}
 use lib.ListN.{length}
 use Rattle.packet.specs.Packet.{packetOf, cmd1Of, cmd2Of, error, whole, last, hostRead}
@@ -16,29 +16,10 @@ use Rattle.settings.specs.declared.command.Command.{Command}
 use Rattle.settings.specs.declared.command.Found.{Found}
 use Rattle.settings.specs.declared.command.Found.the-variants.{Known, Unknown}
 use Rattle.values.specs.Fields.{splitAll}
-use Rattle.judging.specs.Judging.{
-  Transfer,
-  Closed,
-  Arrived,
-  arrived,
-  held,
-  faults,
-  anyFault,
-  sizeFault,
-  valueFault,
-  modeFault,
-  listIf,
-  codesOf,
-  judgeWrite,
-  judgeRead,
-  judgeData,
-  judge,
-  settingsAfter,
-  response,
-}
+use Rattle.judging.specs.Judging.{Transfer, Closed, Arrived, arrived, faults, anyFault, sizeFault, valueFault, modeFault, listIf, codesOf, judgeWrite, judgeRead, judgeData, judge, settingsAfter, response}
 use Rattle.judging.specs.Playing.{State, judged, next, judgements, after}
 use Rattle.controller.specs.Controller.{inRule}
-use Rattle.serving.specs.Calls.{After, refused, receiveCall}
+use Rattle.serving.specs.Calls.{refused, receiveCall}
 use Rattle.judging.specs.declared.judge.Codes.{Codes}
 use Rattle.judging.specs.declared.judge.Judgement.{Judgement}
 use Rattle.judging.specs.declared.judge.Judgement.the-variants.{Refuse, Hold, Write, Read}

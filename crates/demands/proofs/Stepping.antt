@@ -1,11 +1,11 @@
 -- One call at a packet boundary, for callers that go packet by packet.
 use Prim.Native.Nat.{ℕ, _+_, _≤_}
-use mathlib.Core.Path.{_≡_, refl, ap, sym, subst, _∙_}
-use mathlib.Core.Bool.{Bool, true, false, cond}
-use mathlib.Core.List.{List, [], _∷_, _++_}
+use mathlib.Core.Path.{_≡_, ap, sym, subst, _∙_}
+use mathlib.Core.Bool.{false, cond}
+use mathlib.Core.List.{List, _++_}
 use native.Mathlib.Omega.{arith}
 use lib.Dec.{eqb}
-use lib.ListN.{length, getD, drop, take}
+use lib.ListN.{length, getD}
 use Rattle.packet.specs.Packet.{writeResponse, packetOf, sealed}
 use Rattle.packet.specs.Stream.{hasPacket}
 use Rattle.packet.specs.Receiving.{with, waiting as receiverWaiting}
@@ -14,9 +14,9 @@ use Rattle.packet.specs.declared.receiver.Received.{Received}
 use Rattle.packet.proofs.Framing.{IsPacket}
 use Rattle.packet.proofs.Receiving.{Between, between-packet, one, first-of, too-few}
 use Rattle.judging.specs.Judging.{arrived, acknowledged, response}
-use Rattle.judging.specs.Playing.{State, judged, next}
+use Rattle.judging.specs.Playing.{judged, next}
 use Rattle.judging.specs.Held.{heldIn}
-use Rattle.serving.specs.Calls.{Outcome, Waits, Answers, judgedIn, carriedOut, responseIn, After, waiting, answered, receiveCall}
+use Rattle.serving.specs.Calls.{Waits, Answers, responseIn, After, waiting, answered, receiveCall}
 use Rattle.judging.specs.declared.judge.Judgement.{Judgement}
 use Rattle.controller.specs.declared.controller.Controller.{Controller}
 use Rattle.judging.proofs.Judgements.{acknowledged-type}

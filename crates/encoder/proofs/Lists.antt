@@ -1,7 +1,7 @@
 -- Lists of writes: played on a head they store what they were made from.
 use Prim.Native.Nat.{ℕ, zero, suc, _+_, _<_, _≤_}
 use mathlib.Core.Path.{_≡_, refl, ap, ap₂, sym, _∙_}
-use mathlib.Core.Bool.{Bool, true, false, not, _&&_}
+use mathlib.Core.Bool.{true, false}
 use mathlib.Core.List.{List, [], _∷_, _++_, append-assoc, append-nil}
 use native.Mathlib.Omega.{arith}
 use lib.ListN.{length, getD, take, length-append}
@@ -10,21 +10,19 @@ use Rattle.packet.specs.Stream.{packets, rest}
 use Rattle.packet.proofs.Cases.{and-both}
 use Rattle.writer.proofs.Writing.{size-written}
 use Rattle.packet.proofs.Framing.{IsPacket, packets-nil, rest-nil, packets-cons, rest-cons}
-use Rattle.settings.specs.Table.{table, cmd1For, cmd2For, layout, sizeOf, allowed}
-use Rattle.values.specs.Fields.{joinAll}
+use Rattle.settings.specs.Table.{table, cmd1For, cmd2For, sizeOf}
 use Rattle.settings.specs.Settings.{valuesOf, factory, blocked, valuesAfter, store}
 use Rattle.values.specs.Values.{dataOf}
-use Rattle.judging.specs.Judging.{Closed, isOpen, acknowledged}
-use Rattle.judging.specs.Playing.{State, from, judged, next, judgements, after, play, allAcknowledged, isNil, clean}
+use Rattle.judging.specs.Judging.{acknowledged}
+use Rattle.judging.specs.Playing.{State, from, judged, next, judgements, after, play, allAcknowledged, clean}
 use Rattle.encoder.specs.Encoding.{writePacket, encoded, listOf, standardList}
 use Rattle.values.specs.Values.{valueFrom}
 use Rattle.settings.specs.declared.settings.Settings.{Settings}
 use Rattle.settings.specs.declared.command.Command.{Command}
-use Rattle.values.proofs.Layouts.{length-join}
 use Rattle.settings.proofs.Commands.{each, size-small}
 use Rattle.emitting.proofs.Emitting.{data-length}
 use Rattle.values.proofs.Valued.{command-from, data-from}
-use Rattle.settings.proofs.Keeping.{Kept, Fits, length-values}
+use Rattle.settings.proofs.Keeping.{Kept, Fits}
 use Rattle.encoder.proofs.Writes.{write-packet, next-write}
 
 -- the settings t after the values of s were written with each command of a list

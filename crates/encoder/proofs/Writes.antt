@@ -1,75 +1,36 @@
 -- Write packets: the encoder's packet is judged as its write, an accepted whole write encodes to its own bytes, and lists of writes.
-use Prim.Native.Nat.{ℕ, suc, _+_, _<_, _≤_}
-use mathlib.Core.Path.{_≡_, refl, ap, ap₂, sym, subst, _∙_}
+use Prim.Native.Nat.{ℕ, _+_, _≤_}
+use mathlib.Core.Path.{_≡_, refl, ap, sym, subst, _∙_}
 use mathlib.Core.Bool.{Bool, true, false, cond, not, _&&_, _||_}
-use mathlib.Core.List.{List, [], _∷_, _++_}
+use mathlib.Core.List.{List, _++_}
 use native.Mathlib.Omega.{arith}
-use lib.Dec.{eqb, ltb, leb}
+use lib.Dec.{eqb}
 use borrow.Author.Tests.{eq-eqb, eqb-true, le-ltb, not-false}
-use lib.ListN.{length, length-append}
+use lib.ListN.{length}
 use Rattle.packet.specs.Numbers.{Bytes}
-use Rattle.packet.specs.Packet.{typeOf, cmd1Of, cmd2Of, flagsOf, payloadLength, payload, rightSum, sum, sealed, packetOf, hostWrite, hostRead, readResponse, whole}
-use Rattle.packet.specs.Stream.{packets, rest}
+use Rattle.packet.specs.Packet.{typeOf, cmd1Of, cmd2Of, flagsOf, payloadLength, payload, rightSum, sum, sealed, packetOf, hostWrite, hostRead, whole}
 use Rattle.packet.proofs.Numbers.{bytes-take, bytes-drop}
-use Rattle.packet.proofs.Cases.{cond-cases, bool-cases}
-use Rattle.packet.proofs.Framing.{IsPacket, packets-nil, rest-nil, packets-cons, rest-cons}
+use Rattle.packet.proofs.Framing.{IsPacket}
 use Rattle.writer.proofs.Writing.{length-written, size-written, packet-written, payload-written, sum-written, packet-remade}
 use Rattle.values.specs.Fields.{splitAll, joinAll}
-use Rattle.settings.specs.Table.{table, cmd1For, cmd2For, commandOf, isKnown, canRead, same, layout, sizeOf, readable, allowed}
-use Rattle.settings.specs.Settings.{valuesOf, settingsOf, factory, blocked, valuesAfter, store}
-use Rattle.values.specs.Values.{dataOf}
+use Rattle.settings.specs.Table.{cmd1For, cmd2For, commandOf, isKnown, canRead, layout, sizeOf, allowed}
+use Rattle.settings.specs.Settings.{blocked, store}
 use Rattle.values.specs.Values.{commandIn, valuesIn, valueFrom, dataIn}
-use Rattle.judging.specs.Judging.{
-  Transfer,
-  Closed,
-  Opened,
-  Arrived,
-  arrived,
-  isOpen,
-  held,
-  openFor,
-  continues,
-  wrongCommand,
-  tooLong,
-  wrongOrder,
-  faultsOf,
-  faults,
-  anyFault,
-  sizeFault,
-  valueFault,
-  modeFault,
-  judgeWrite,
-  judgeRead,
-  judgeData,
-  judge,
-  response,
-}
-use Rattle.judging.specs.Playing.{State, from, judged, next, judgements, after, play, allAcknowledged, isNil, clean}
-use Rattle.encoder.specs.Encoding.{writePacket, encoded, listOf, standardList}
+use Rattle.judging.specs.Judging.{Transfer, Closed, Opened, Arrived, arrived, isOpen, held, openFor, wrongCommand, tooLong, wrongOrder, faultsOf, faults, anyFault, sizeFault, valueFault, modeFault, judgeWrite, judgeRead, judgeData, judge}
+use Rattle.judging.specs.Playing.{State, from, judged, next}
+use Rattle.encoder.specs.Encoding.{writePacket, encoded}
 use Rattle.settings.specs.declared.settings.Settings.{Settings}
 use Rattle.settings.specs.declared.command.Command.{Command}
-use Rattle.settings.specs.declared.command.Command.the-variants.{
-  DisplayMode,
-  TestPattern,
-  LedCurrent,
-  StaticColour,
-  DisplaySetting,
-  VideoInput,
-  VideoMode,
-  PatternSequence,
-  SequenceRun,
-}
 use Rattle.settings.specs.declared.command.Found.{Found}
 use Rattle.settings.specs.declared.command.Found.the-variants.{Known, Unknown}
 use Rattle.judging.specs.declared.judge.Codes.{Codes}
 use Rattle.judging.specs.declared.judge.Judgement.{Judgement}
-use Rattle.judging.specs.declared.judge.Judgement.the-variants.{Refuse, Hold, Write, Read}
+use Rattle.judging.specs.declared.judge.Judgement.the-variants.{Refuse, Write, Read}
 use Rattle.values.specs.declared.value.Value.{Value}
 use Rattle.values.proofs.Layouts.{split-length, split-join, length-join, join-split}
 use Rattle.settings.proofs.Commands.{Fit, fit-length}
-use Rattle.settings.proofs.Commands.{each, found, known-code, size-small}
+use Rattle.settings.proofs.Commands.{found, known-code, size-small}
 use Rattle.values.proofs.Valued.{command-from, values-from, value-from}
-use Rattle.settings.proofs.Keeping.{Kept, Fits, values-store}
 
 -- a packet without flags that this layer makes, as it arrives
 abbrev pub plain : ℕ → Command → List ℕ → Arrived

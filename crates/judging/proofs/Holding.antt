@@ -1,44 +1,23 @@
 -- The held bytes of a transfer in the controller's hold.
-use Prim.Native.Nat.{ℕ, _+_, _-_, _<_, _≤_}
+use Prim.Native.Nat.{ℕ, _+_, _-_, _≤_}
 use mathlib.Core.Path.{_≡_, refl, ap, ap₂, sym, subst, _∙_}
-use mathlib.Core.Bool.{Bool, true, false, cond, not, _&&_, _||_}
-use mathlib.Core.List.{List, [], _∷_, _++_}
+use mathlib.Core.Bool.{Bool, true, false, not, _&&_, _||_}
+use mathlib.Core.List.{List, _++_}
 use native.Mathlib.Omega.{arith}
-use native.Mathlib.Nat.{add-zero, zero-add}
 use lib.Dec.{eqb, ltb, leb}
-use borrow.Author.Tests.{eq-eqb, ne-eqb, eqb-true, eqb-false, ltb-true, ltb-false, leb-true, le-leb, not-true}
-use lib.ListN.{length, getD, take, drop, length-append, length-take, length-drop, take-append-drop}
-use lib.Seq.{sets, sets-eq, length-sets, take-at, drop-at, take-append-le, length-take-le, take-add}
+use borrow.Author.Tests.{eq-eqb, ne-eqb, eqb-true, eqb-false, ltb-false, leb-true}
+use lib.ListN.{length, take, drop}
+use lib.Seq.{length-take-le, take-add}
 use Rattle.packet.specs.Packet.{payloadLength, hostWrite, whole, beginning, intermediate, last}
-use Rattle.packet.proofs.Cases.{bool-cases, cond-cases, and-left, and-right, and-both}
+use Rattle.packet.proofs.Cases.{bool-cases, and-left, and-right}
 use Rattle.settings.specs.Table.{cmd1For, cmd2For, hasCode, commandOf, isKnown, same}
-use Rattle.judging.specs.Judging.{
-  Transfer,
-  Closed,
-  Opened,
-  Arrived,
-  isOpen,
-  held,
-  openFor,
-  continues,
-  wrongCommand,
-  tooLong,
-  wrongOrder,
-  faultsOf,
-  faults,
-  anyFault,
-  judgeData,
-  judge,
-}
-use Rattle.judging.specs.Held.{heldIn, transferIn, openedFor, isOpenIn, openForIn, transferInRule, packetIn}
+use Rattle.judging.specs.Judging.{Transfer, Closed, Opened, Arrived, isOpen, held, openFor, continues, wrongCommand, tooLong, wrongOrder, faultsOf, faults, anyFault}
+use Rattle.judging.specs.Held.{heldIn, transferIn, isOpenIn, openForIn, transferInRule, packetIn}
 use Rattle.settings.specs.declared.command.Command.{Command}
 use Rattle.settings.specs.declared.command.Found.{Found}
 use Rattle.settings.specs.declared.command.Found.the-variants.{Known, Unknown}
-use Rattle.judging.specs.declared.judge.Codes.{Codes}
-use Rattle.judging.specs.declared.judge.Judgement.{Judgement}
-use Rattle.judging.specs.declared.judge.Judgement.the-variants.{Refuse, Hold, Write, Read}
 use Rattle.judging.specs.declared.transfer.TransferState.{TransferState}
-use Rattle.settings.proofs.Commands.{found, known-code}
+use Rattle.settings.proofs.Commands.{known-code}
 
 -- With no fault of the first group, the held bytes and the payload fit the hold.
 

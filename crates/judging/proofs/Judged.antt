@@ -1,8 +1,8 @@
 -- How the code's steps of judging make up the judgement.
 use Prim.Native.Nat.{ℕ, _+_, _≤_}
-use mathlib.Core.Path.{_≡_, refl, ap, ap₂, sym, subst, _∙_}
-use mathlib.Core.Bool.{Bool, true, false, cond, not, _||_}
-use mathlib.Core.List.{List, _++_}
+use mathlib.Core.Path.{_≡_, ap, _∙_}
+use mathlib.Core.Bool.{Bool, true, false, cond, _||_}
+use mathlib.Core.List.{List}
 use native.Mathlib.Omega.{arith}
 use lib.Dec.{eqb}
 use borrow.Author.Tests.{eq-eqb, ne-eqb}
@@ -11,14 +11,14 @@ use Rattle.packet.specs.Packet.{typeOf, cmd1Of, cmd2Of, flagsOf, payloadLength,
 use Rattle.values.specs.Fields.{splitAll}
 use Rattle.settings.specs.Table.{commandOf, layout, sizeOf, allowed}
 use Rattle.settings.specs.Settings.{blocked}
-use Rattle.values.specs.Values.{commandIn, valuesIn, valueFrom, parsed}
-use Rattle.judging.specs.Judging.{held, faultsOf, faults, anyFault, sizeFault, valueFault, modeFault, judgeWrite, judgeRead, judgeData, judge}
+use Rattle.values.specs.Values.{commandIn, valuesIn, parsed}
+use Rattle.judging.specs.Judging.{faultsOf, anyFault, sizeFault, valueFault, modeFault, judgeWrite, judgeRead, judgeData, judge}
 use Rattle.judging.specs.Held.{heldIn, transferIn, isOpenIn, openForIn, transferInRule, packetIn}
 use Rattle.settings.specs.declared.command.Command.{Command}
 use Rattle.settings.specs.declared.command.Found.{Found}
-use Rattle.settings.specs.declared.command.Found.the-variants.{Known, Unknown}
+use Rattle.settings.specs.declared.command.Found.the-variants.{Known}
 use Rattle.judging.specs.declared.judge.Judgement.{Judgement}
-use Rattle.judging.specs.declared.judge.Judgement.the-variants.{Refuse, Hold, Write, Read}
+use Rattle.judging.specs.declared.judge.Judgement.the-variants.{Refuse, Hold, Write}
 use Rattle.values.specs.declared.value.Value.{Value}
 use Rattle.values.specs.declared.value.Parsed.{Parsed}
 use Rattle.values.specs.declared.value.Parsed.the-variants.{Values, WrongSize}

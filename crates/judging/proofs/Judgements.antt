@@ -1,10 +1,10 @@
 -- What is known of a judgement.
-use Prim.Native.Nat.{ℕ, _+_, _<_, _≤_}
-use mathlib.Core.Path.{_≡_, refl, ap, sym, subst, _∙_}
-use mathlib.Core.Bool.{Bool, true, false, cond, not, _&&_, _||_}
-use mathlib.Core.List.{List, [], _∷_, _++_}
+use Prim.Native.Nat.{ℕ, _+_}
+use mathlib.Core.Path.{_≡_, refl, sym, subst}
+use mathlib.Core.Bool.{true, false, _||_}
+use mathlib.Core.List.{List, _++_}
 use native.Mathlib.Omega.{arith}
-use lib.Dec.{eqb, ltb}
+use lib.Dec.{eqb}
 use borrow.Author.Tests.{eqb-true}
 use lib.ListN.{length}
 use Rattle.packet.specs.Numbers.{Bytes}
@@ -14,13 +14,12 @@ use Rattle.values.specs.Fields.{splitAll}
 use Rattle.settings.specs.Table.{commandOf, layout, sizeOf, allowed}
 use Rattle.settings.specs.Settings.{blocked}
 use Rattle.values.specs.Values.{commandIn, valuesIn, valueFrom}
-use Rattle.judging.specs.Judging.{Transfer, Closed, Opened, Arrived, held, judgeWrite, judgeRead, judgeData, faults, anyFault, judge, acknowledged, responseType}
+use Rattle.judging.specs.Judging.{Transfer, Arrived, held, judgeWrite, judgeRead, judgeData, faults, anyFault, judge, acknowledged, responseType}
 use Rattle.settings.specs.declared.command.Command.{Command}
 use Rattle.settings.specs.declared.command.Found.{Found}
 use Rattle.settings.specs.declared.command.Found.the-variants.{Known, Unknown}
 use Rattle.judging.specs.declared.judge.Judgement.{Judgement}
 use Rattle.judging.specs.declared.judge.Judgement.the-variants.{Refuse, Hold, Write, Read}
-use Rattle.values.specs.declared.value.Value.{Value}
 use Rattle.values.proofs.Layouts.{split-length, fit-split}
 use Rattle.settings.proofs.Commands.{Fit}
 use Rattle.values.proofs.Valued.{command-from, values-from}

@@ -1,23 +1,19 @@
 -- Playing: what it keeps, packets one after the other, and what a list of writes leaves.
 use Prim.Native.Nat.{ℕ}
-use mathlib.Core.Path.{_≡_, refl, ap, sym, subst, _∙_}
-use mathlib.Core.Bool.{Bool, true, false, not, _&&_}
+use mathlib.Core.Path.{_≡_, refl}
 use mathlib.Core.List.{List, [], _∷_, _++_}
-use native.Mathlib.Omega.{arith}
-use lib.ListN.{length}
 use Rattle.packet.specs.Numbers.{Bytes}
 use Rattle.packet.specs.Packet.{payloadLength, payload}
-use Rattle.packet.specs.Stream.{packets, rest}
+use Rattle.packet.specs.Stream.{packets}
 use Rattle.packet.proofs.Numbers.{bytes-append, bytes-take, bytes-drop}
-use Rattle.packet.proofs.Framing.{AllBytes, packets-bytes, packets-joined}
-use Rattle.settings.specs.Settings.{store, factory}
-use Rattle.judging.specs.Judging.{Transfer, Closed, Opened, Arrived, arrived, held, judge, settingsAfter, transferAfter}
-use Rattle.judging.specs.Playing.{State, from, judged, next, judgements, responses, after, play, allAcknowledged, isNil, clean}
+use Rattle.packet.proofs.Framing.{AllBytes, packets-bytes}
+use Rattle.judging.specs.Judging.{Transfer, Arrived, arrived, held, judge, settingsAfter, transferAfter}
+use Rattle.judging.specs.Playing.{State, from, judged, next, after, play}
 use Rattle.settings.specs.declared.settings.Settings.{Settings}
 use Rattle.judging.specs.declared.judge.Judgement.{Judgement}
 use Rattle.judging.specs.declared.judge.Judgement.the-variants.{Refuse, Hold, Write, Read}
 use Rattle.values.specs.Values.{commandIn, valuesIn}
-use Rattle.settings.proofs.Keeping.{Kept, Fits, kept-store, fits-store, kept-factory, fits-factory}
+use Rattle.settings.proofs.Keeping.{Kept, Fits, kept-store, fits-store}
 use Rattle.judging.proofs.Judgements.{Sound, sound, Fitting, fitting}
 
 -- the state keeps the rules: its settings do, their values fit, and what is held are bytes

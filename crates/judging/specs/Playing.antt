@@ -1,9 +1,9 @@
 -- Playing bytes from given settings.
 use Prim.Native.Nat.{ℕ}
 use mathlib.Core.Bool.{Bool, true, false, not, _&&_}
-use mathlib.Core.List.{List, [], _∷_, _++_}
+use mathlib.Core.List.{List, [], _∷_}
 use Rattle.packet.specs.Stream.{packets, rest}
-use Rattle.judging.specs.Judging.{Transfer, Closed, Opened, isOpen, arrived, judge, settingsAfter, transferAfter, acknowledged, response}
+use Rattle.judging.specs.Judging.{Transfer, Closed, isOpen, arrived, judge, settingsAfter, transferAfter, acknowledged, response}
 use Rattle.settings.specs.declared.settings.Settings.{Settings}
 use Rattle.judging.specs.declared.judge.Judgement.{Judgement}
 

@@ -1,15 +1,14 @@
 -- Laws of framing: the packets of a list of bytes.
-use Prim.Native.Nat.{ℕ, zero, suc, _+_, _*_, _/_, _%_, _<_, _≤_}
+use Prim.Native.Nat.{ℕ, zero, suc, _+_, _*_, _<_, _≤_}
 use mathlib.Core.Path.{_≡_, refl, ap, ap₂, sym, _∙_, subst}
-use mathlib.Core.Bool.{Bool, true, false, cond, _&&_, and-false}
+use mathlib.Core.Bool.{true, false, and-false}
 use mathlib.Core.List.{List, [], _∷_, _++_, append-assoc}
 use native.Mathlib.Omega.{arith}
-use lib.Dec.{leb, eqb}
-use borrow.Author.Tests.{leb-true, le-leb, lt-leb, eq-eqb}
+use lib.Dec.{leb}
+use borrow.Author.Tests.{leb-true, le-leb, lt-leb}
 use lib.ListN.{length, take, drop, getD, length-append, take-append-drop, length-drop, List·getD-append}
-use lib.Seq.{drop-append-add, take-at, drop-at, getD-at, getD-drop, length-take-le}
-use Rattle.packet.specs.Numbers.{Bytes, bytesOf}
-use Rattle.packet.specs.Packet.{payloadLength, payload, sum, checksum, rightSum, header, sealed, packetOf}
+use lib.Seq.{drop-append-add, take-at, drop-at, getD-drop, length-take-le}
+use Rattle.packet.specs.Numbers.{Bytes}
 use Rattle.packet.specs.Stream.{nextIn, size, hasPacket, packetsIn, packets, bytesIn, rest}
 use Rattle.packet.specs.declared.next.Next.the-variants.{Packet, Nothing}
 use Rattle.packet.proofs.Cases.{cond-cases, bool-cases, and-right, and-both}

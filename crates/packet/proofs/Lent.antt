@@ -1,10 +1,10 @@
 -- A call with header and hold lent is the receiver's call.
-use mathlib.Core.Path.{_≡_, refl, sym, ap, ap₂, _∙_}
-use mathlib.Core.List.{List, [], _++_}
-use mathlib.Core.Bool.{Bool, true, false, cond}
-use Prim.Native.Nat.{ℕ, _+_, _-_, _%_, _<_, _≤_, max, min}
+use mathlib.Core.Path.{_≡_, sym, ap, ap₂, _∙_}
+use mathlib.Core.List.{List}
+use mathlib.Core.Bool.{true, false}
+use Prim.Native.Nat.{ℕ, _+_, _-_, _%_, _<_, _≤_, min}
 use native.Mathlib.Omega.{arith}
-use lib.Dec.{eqb, ltb, leb}
+use lib.Dec.{eqb, leb}
 use borrow.Author.Tests.{le-ltb, lt-ltb, le-leb, lt-leb, leb-true, leb-false}
 use lib.ListN.{length, getD, drop, take, take-append-drop, drop-of-length-le}
 use lib.Seq.{sets, take-all, length-take-le}
@@ -12,7 +12,7 @@ use Rattle.packet.specs.declared.receiver.Receiver.{Receiver}
 use Rattle.packet.specs.declared.receiver.Received.{Received}
 use Rattle.packet.specs.declared.taking.Taken.{Taken}
 use Rattle.packet.specs.Packet.{payloadLength, sum}
-use Rattle.packet.specs.Receiving.{with, between, missing, waiting, completed, receiving}
+use Rattle.packet.specs.Receiving.{with, missing, waiting, completed, receiving}
 use Rattle.packet.specs.Taking.{before, waitingFrom, completedFrom, takenFrom, keptFrom}
 use Rattle.packet.proofs.Cases.{bool-cases}
 use Rattle.packet.proofs.Lists.{sets-past}

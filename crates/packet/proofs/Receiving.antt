@@ -1,14 +1,14 @@
 -- The receiver on streams: cutting a stream changes nothing, and a whole packet completes at its last byte.
-use mathlib.Core.Path.{_≡_, refl, sym, ap, ap₂, subst, _∙_}
-use mathlib.Core.List.{List, [], _∷_, _++_, append-nil}
-use mathlib.Core.Bool.{Bool, true, false, cond}
-use Prim.Native.Nat.{ℕ, suc, _+_, _-_, _*_, _%_, _<_, _≤_, max}
+use mathlib.Core.Path.{_≡_, refl, sym, ap, subst, _∙_}
+use mathlib.Core.List.{List, [], _∷_, _++_}
+use mathlib.Core.Bool.{Bool, true, false}
+use Prim.Native.Nat.{ℕ, suc, _+_, _-_, _%_, _<_, _≤_}
 use native.Mathlib.Nat.{add-zero, zero-add, add-assoc}
 use native.Mathlib.Numerals.{add-one}
 use native.Mathlib.Omega.{arith}
-use lib.Dec.{eqb, ltb, leb}
+use lib.Dec.{eqb, ltb}
 use borrow.Author.Tests.{le-ltb, lt-ltb, ltb-true, ltb-false}
-use lib.ListN.{length, getD, drop, take, set, length-append, length-take, length-drop, drop-of-length-le, List·getD-append}
+use lib.ListN.{length, getD, drop, take, set, length-append, length-drop, drop-of-length-le, List·getD-append}
 use lib.Seq.{sets, length-sets, set-out, drop-cons, drop-nil, take-append-add, take-append-le, drop-append-add, drop-append-le, getD-append-add, getD-take, take-take, take-add, drop-at, length-take-le}
 use Rattle.packet.specs.declared.receiver.Receiver.{Receiver}
 use Rattle.packet.specs.declared.receiver.Received.{Received}

@@ -1,9 +1,9 @@
 -- The receiver over whole streams: however a stream is cut into calls, its packets are those of the joined bytes.
-use Prim.Native.Nat.{ℕ, zero, suc, _+_, _-_, _<_, _≤_}
+use Prim.Native.Nat.{ℕ, suc, _+_, _-_, _<_, _≤_}
 use mathlib.Core.Path.{_≡_, refl, sym, ap, subst, _∙_}
-use mathlib.Core.Bool.{Bool, true, false, cond}
+use mathlib.Core.Bool.{Bool, false, cond}
 use mathlib.Core.List.{List, [], _∷_, _++_}
-use mathlib.Core.Option.{Option, none, some}
+use mathlib.Core.Option.{none, some}
 use native.Mathlib.Omega.{arith}
 use borrow.Author.Tests.{ltb-true, ltb-false}
 use lib.Dec.{ltb}
@@ -13,7 +13,7 @@ use Rattle.packet.specs.declared.receiver.Receiver.{Receiver}
 use Rattle.packet.specs.declared.receiver.Received.{Received}
 use Rattle.packet.specs.Packet.{rightSum}
 use Rattle.packet.specs.Stream.{hasPacket, packets, rest}
-use Rattle.packet.specs.Receiving.{with, between, missing, waiting, completed, receiving}
+use Rattle.packet.specs.Receiving.{with, missing, waiting, completed, receiving}
 use Rattle.packet.specs.Calls.{Call, Served, andThen, callsOn, servedOne, served, joined}
 use Rattle.packet.proofs.Cases.{bool-cases}
 use Rattle.packet.proofs.Framing.{IsPacket, packets-cons, rest-cons, packets-none, rest-none, packet-induction}

@@ -2,7 +2,7 @@
 -- A receiver of any field values is answered. One that has all bytes of its packet already takes the next byte for the checksum;
 -- a sum that fits no bytes is continued as it stands.
 use Prim.Native.Nat.{ℕ, _+_, _-_, _%_, max}
-use mathlib.Core.Bool.{Bool, true, false, cond}
+use mathlib.Core.Bool.{true, false, cond}
 use mathlib.Core.List.{List}
 use lib.Dec.{eqb, ltb}
 use lib.ListN.{length, getD, take, drop, replicate}

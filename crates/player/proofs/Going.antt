@@ -1,27 +1,26 @@
 -- Playing bytes packet by packet: what a turn of the loop needs of the definitions.
 use Prim.Native.Nat.{ℕ, _+_, _-_, _<_, _≤_}
 use mathlib.Core.Path.{_≡_, refl, ap, ap₂, sym, subst, _∙_}
-use mathlib.Core.Bool.{Bool, true, false, cond, not, _&&_}
+use mathlib.Core.Bool.{Bool, true, false, not, _&&_}
 use mathlib.Core.List.{List, [], _∷_, _++_}
 use native.Mathlib.Omega.{arith}
-use native.Mathlib.Nat.{add-zero, zero-add}
 use lib.Dec.{eqb}
 use borrow.Author.Tests.{eq-eqb, ne-eqb}
-use lib.ListN.{length, getD, take, drop, length-append, length-drop, take-append-drop, drop-of-length-le, length-replicate}
+use lib.ListN.{length, getD, take, drop, length-drop, take-append-drop, drop-of-length-le, length-replicate}
 use lib.Seq.{drop-drop, drop-at, length-take-le}
 use Rattle.packet.specs.Packet.{writeResponse}
 use Rattle.packet.specs.Receiving.{fresh, zeros}
 use Rattle.packet.specs.Stream.{size, hasPacket, packets, rest}
 use Rattle.packet.proofs.Cases.{bool-cases}
-use Rattle.packet.proofs.Framing.{IsPacket, first-packet, size-within, seven, packets-nil, rest-nil, packets-cons, rest-cons, packets-none, rest-none}
+use Rattle.packet.proofs.Framing.{IsPacket, first-packet, size-within, packets-nil, rest-nil, packets-cons, rest-cons, packets-none, rest-none}
 use Rattle.packet.proofs.Receiving.{Between}
 use Rattle.settings.specs.Settings.{settingsInRule}
 use Rattle.settings.specs.declared.settings.Settings.{Settings}
-use Rattle.judging.specs.Judging.{Transfer, Closed, isOpen, acknowledged}
+use Rattle.judging.specs.Judging.{isOpen, acknowledged}
 use Rattle.judging.specs.Playing.{State, from, judged, next, judgements, after, play, allAcknowledged, isNil, clean}
-use Rattle.judging.specs.Held.{noTransfer, isOpenIn, transferInRule}
+use Rattle.judging.specs.Held.{noTransfer, transferInRule}
 use Rattle.controller.specs.Controller.{packetInRule, inRule}
-use Rattle.serving.specs.Calls.{Outcome, Waits, Answers, Refuses, After, receiveCall}
+use Rattle.serving.specs.Calls.{Waits, Answers, receiveCall}
 use Rattle.controller.specs.declared.controller.Controller.{Controller}
 use Rattle.judging.proofs.Holding.{open-is}
 use Rattle.controller.proofs.Rule.{rule-parts}

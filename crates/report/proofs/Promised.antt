@@ -5,7 +5,7 @@ use mathlib.Core.Bool.{Bool, true, false}
 use mathlib.Core.List.{List, [], _++_, append-assoc}
 use native.Mathlib.Omega.{arith}
 use lib.Dec.{eqb}
-use borrow.Author.Tests.{eqb-true, eqb-false, eq-eqb}
+use borrow.Author.Tests.{eqb-true, eqb-false}
 use lib.ListN.{length, take, drop, length-drop, length-append}
 use lib.Seq.{take-all, drop-at}
 use Rattle.packet.specs.Numbers.{bytesOf, Bytes}
@@ -36,8 +36,7 @@ use Rattle.tuning.specs.Report.{
 }
 use Rattle.tuning.specs.Report.{Refused as RefusedWith}
 use Rattle.tuning.specs.Claim.{recordOf, trialRecords, reportOf, FirstLowest, Demand3}
-use Rattle.tuning.specs.Refusals.{Layout, Refusal}
-use Rattle.records.specs.Found.{outOf}
+use Rattle.tuning.specs.Refusals.{Refusal}
 use Rattle.report_end.specs.Winner.{winnerAt}
 use Rattle.records.specs.declared.record.Outcome.{Outcome}
 use Rattle.records.specs.declared.record.Outcome.the-variants.{Value, Refused}
@@ -45,7 +44,7 @@ use Rattle.trials.specs.Found.{bestOf}
 use Rattle.trials.specs.declared.best.Best.{Best}
 use Rattle.trials.proofs.Lowest.{First, first-best}
 use Rattle.report.specs.Answers.{verdictIn, scoreIn, settingsIn}
-use Rattle.tuning.proofs.Flat.{nested, flat, then-good, need-good, trials-left, end-place, ofTrials, end-trials}
+use Rattle.tuning.proofs.Flat.{flat, then-good, need-good, trials-left, end-place, ofTrials, end-trials}
 use Rattle.tuning.proofs.Reports.{Ends, Laid, reading-report, length-report, lowest-true, lowest-back, demand3-of}
 use Rattle.tuning.proofs.Trials.{lowest-one}
 

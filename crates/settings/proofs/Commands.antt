@@ -1,7 +1,7 @@
 -- Laws of the table, and of settings as lists of values.
-use Prim.Native.Nat.{ℕ, zero, suc, _+_, _^_, _<_, _≤_}
+use Prim.Native.Nat.{ℕ, zero, suc, _^_, _<_, _≤_}
 use mathlib.Core.Path.{_≡_, refl, ap, sym, subst, _∙_}
-use mathlib.Core.Bool.{Bool, true, false, cond, not, _&&_}
+use mathlib.Core.Bool.{Bool, true, cond}
 use mathlib.Core.List.{List, [], _∷_}
 use native.Mathlib.Omega.{arith}
 use lib.Dec.{eqb}
@@ -9,9 +9,8 @@ use borrow.Author.Tests.{eqb-true}
 use lib.ListN.{length, getD}
 use Rattle.packet.specs.Packet.{sum}
 use Rattle.packet.proofs.Cases.{bool-cases, and-left, and-right}
-use Rattle.settings.specs.Table.{table, cmd1For, cmd2For, hasCode, find, commandOf, isKnown, same, layout, sizeOf, allowed}
+use Rattle.settings.specs.Table.{table, cmd1For, cmd2For, hasCode, find, commandOf, same, layout, sizeOf}
 use Rattle.settings.specs.Settings.{valuesOf, settingsOf}
-use Rattle.settings.specs.declared.settings.Settings.{Settings}
 use Rattle.settings.specs.declared.command.Command.{Command}
 use Rattle.settings.specs.declared.command.Command.the-variants.{
   DisplayMode,
@@ -24,8 +23,7 @@ use Rattle.settings.specs.declared.command.Command.the-variants.{
   PatternSequence,
   SequenceRun,
 }
-use Rattle.settings.specs.declared.command.Found.{Found}
-use Rattle.settings.specs.declared.command.Found.the-variants.{Known, Unknown}
+use Rattle.settings.specs.declared.command.Found.the-variants.{Known}
 
 -- what holds of each command of the table holds of all
 pub each : (P : Command → Type 0)

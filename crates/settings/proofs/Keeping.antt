@@ -1,16 +1,15 @@
 -- Settings that keep the rules, and what a write leaves of them.
 use Prim.Native.Nat.{ℕ}
-use mathlib.Core.Path.{_≡_, refl, ap, sym, subst, _∙_}
+use mathlib.Core.Path.{_≡_, refl, ap, sym, subst}
 use mathlib.Core.Bool.{Bool, true, false, cond, not, _&&_, and-false}
 use mathlib.Core.List.{List, [], _∷_}
 use native.Mathlib.Omega.{arith}
 use lib.Dec.{eqb}
 use borrow.Author.Tests.{not-true}
 use lib.ListN.{length, getD}
-use Rattle.packet.specs.Packet.{sum}
-use Rattle.packet.proofs.Cases.{cond-cases, bool-cases, and-left, and-right, and-both}
+use Rattle.packet.proofs.Cases.{cond-cases, and-left, and-right, and-both}
 use Rattle.settings.specs.Table.{table, same, layout, oneOf, listed, allowed}
-use Rattle.settings.specs.Settings.{valuesOf, settingsOf, factoryValues, factory, blocked, valuesAfter, store, allAllowed, settingsInRule}
+use Rattle.settings.specs.Settings.{valuesOf, factory, blocked, valuesAfter, store, allAllowed, settingsInRule}
 use Rattle.settings.specs.declared.settings.Settings.{Settings}
 use Rattle.settings.specs.declared.command.Command.{Command}
 use Rattle.settings.specs.declared.command.Command.the-variants.{

@@ -15,7 +15,7 @@ use Rattle.packet.proofs.Numbers.{value-bytes, length-bytes}
 use Rattle.settings.specs.Settings.{factory}
 use Rattle.judging.specs.Playing.{play, isNil, clean}
 use Rattle.records.specs.Records.{Out, Bad, Good, _>>=_, _>>_, need, reading}
-use Rattle.tuning.specs.Report.{Trial, Trials, Report, readTrials, readEnd, endFrom, firstLowest, sameSettings, checkReport, Refused, verdictOf, verdict}
+use Rattle.tuning.specs.Report.{Trial, Report, readTrials, readEnd, endFrom, firstLowest, sameSettings, checkReport, Refused, verdictOf, verdict}
 use Rattle.tuning.specs.Claim.{recordOf, trialRecords, reportOf, Scores, FirstLowest, Ships}
 use Rattle.tuning.specs.Refusals.{
   headOf,

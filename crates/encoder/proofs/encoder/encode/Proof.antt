@@ -1,5 +1,5 @@
 -- `encode` meets its contract.
-use mathlib.Core.Path.{_≡_, ap, sym, _∙_}
+use mathlib.Core.Path.{ap, sym, _∙_}
 use borrow.Author.Tests.{lt-ltb, le-ltb, not-true, not-false}
 use Rattle.encoder.specs.Encoding.{encodeCall, Writes}
 use borrow.Author.Needs.{needs}

@@ -1,5 +1,5 @@
 -- `head_encode` meets its contract: of a command in the table that of `encoder::encode`, its answer as numbers.
-use mathlib.Core.Path.{_≡_, ap, sym, _∙_}
+use mathlib.Core.Path.{ap, sym, _∙_}
 use denote.Ref.{now}
 use borrow.Author.Needs.{needs}
 use Rattle.settings.specs.declared.command.Found.{Found}

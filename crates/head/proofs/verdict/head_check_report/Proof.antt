@@ -1,5 +1,5 @@
 -- `head_check_report` meets its contract: that of `report::check`, its answer as numbers.
-use mathlib.Core.Path.{_≡_, ap, sym, subst, _∙_}
+use mathlib.Core.Path.{ap, sym, subst, _∙_}
 use denote.Ref.{now}
 use borrow.Author.Needs.{needs}
 use Rattle.packet.proofs.Numbers.{bytes-at}

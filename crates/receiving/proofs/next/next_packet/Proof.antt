@@ -1,7 +1,7 @@
 -- `next_packet` meets its contract.
-use mathlib.Core.Path.{_≡_, sym}
+use mathlib.Core.Path.{sym}
 use native.Mathlib.Omega.{arith}
-use lib.ListN.{length, drop, length-drop}
+use lib.ListN.{drop, length-drop}
 use Rattle.packet.proofs.Framing.{no-header, no-end, has-packet, next-none, next-some, size-at}
 use borrow.Author.Needs.{needs}
 use Rattle.receiving.proofs.next.next_packet.Statement.{statement}

@@ -1,6 +1,6 @@
 -- `check` meets its contract.
 use Prim.Native.Nat.{ℕ, _+_, _-_, _≤_}
-use mathlib.Core.Path.{_≡_, refl, ap, sym, _∙_, subst}
+use mathlib.Core.Path.{_≡_, ap, sym, _∙_}
 use mathlib.Core.Bool.{Bool, cond, _&&_}
 use mathlib.Core.List.{List}
 use native.Mathlib.Omega.{arith}
@@ -17,8 +17,7 @@ use Rattle.records.specs.Records.{Good}
 use Rattle.tuning.specs.Report.{Trials, readTrials, readHead}
 use Rattle.records.specs.Found.{outOf}
 use Rattle.report_end.specs.Winner.{winnerAt}
-use Rattle.records.specs.declared.record.Outcome.{Outcome}
-use Rattle.records.specs.declared.record.Outcome.the-variants.{Value, Refused}
+use Rattle.records.specs.declared.record.Outcome.the-variants.{Refused}
 use Rattle.trials.proofs.Lowest.{First}
 use Rattle.player.specs.Played.{endSettings, endClean}
 use Rattle.report.proofs.Promised.{promised-no, promised-yes, best-bad, best-good, head-no, trials-no, winner-no, room, short, refused-18, refused-19, accepted-with}

@@ -1,10 +1,9 @@
 -- `winner_of` meets its contract.
-use Prim.Native.Nat.{ℕ, _+_, _≤_, _<_}
+use Prim.Native.Nat.{ℕ, _+_, _<_}
 use mathlib.Core.Path.{_≡_, sym, ap, _∙_, subst}
 use mathlib.Core.List.{List}
 use native.Mathlib.Omega.{arith}
 use denote.Ref.{now}
-use lib.ListN.{length, drop}
 use Rattle.records.specs.Records.{Bad}
 use Rattle.records.specs.Found.{outOf}
 use Rattle.records.specs.declared.record.Outcome.the-variants.{Value, Refused}

@@ -1,10 +1,10 @@
 -- `count_of` meets its contract.
-use Prim.Native.Nat.{ℕ, _+_, _≤_}
-use mathlib.Core.Path.{_≡_, sym, ap, _∙_, subst}
+use Prim.Native.Nat.{ℕ, _≤_}
+use mathlib.Core.Path.{sym, ap, _∙_, subst}
 use mathlib.Core.List.{List}
 use native.Mathlib.Omega.{arith}
 use denote.Ref.{now}
-use lib.ListN.{length, drop}
+use lib.ListN.{length}
 use Rattle.records.specs.Found.{outOf}
 use Rattle.records.specs.declared.record.Outcome.the-variants.{Value}
 use Rattle.records.proofs.Records.{ReadAt}

@@ -1,5 +1,5 @@
 -- `advance` meets its contract.
-use mathlib.Core.Path.{_≡_, refl, sym, ap, _∙_}
+use mathlib.Core.Path.{_≡_, sym, ap, _∙_}
 use borrow.Author.Tests.{le-ltb, not-true, not-false}
 use denote.Ref.{now}
 use Prim.Native.Nat.{ℕ, _≤_}

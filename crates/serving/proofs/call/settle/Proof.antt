@@ -1,6 +1,6 @@
 -- `settle` meets its contract.
 use Prim.Native.Nat.{ℕ, _+_, _≤_}
-use mathlib.Core.Path.{_≡_, refl, ap, ap₂, _∙_}
+use mathlib.Core.Path.{_≡_, ap, ap₂, _∙_}
 use mathlib.Core.List.{List}
 use native.Mathlib.Omega.{arith}
 use denote.Ref.{now}
@@ -10,7 +10,7 @@ use Rattle.writer.specs.Writing.{written, outputAfter}
 use Rattle.emitting.specs.Emitting.{lengthIn}
 use Rattle.emitting.proofs.Emitting.{emitted-length, emitted, response-short}
 use Rattle.judging.specs.Judging.{responseType, responseData, settingsAfter, response}
-use Rattle.judging.specs.Held.{heldIn, transferStateAfter, packetIn}
+use Rattle.judging.specs.Held.{heldIn, transferStateAfter}
 use Rattle.serving.specs.Calls.{Answers, judgedIn, responseIn, drawnOn}
 use Rattle.packet.specs.declared.receiver.Receiver.{Receiver}
 use Rattle.settings.specs.declared.settings.Settings.{Settings}

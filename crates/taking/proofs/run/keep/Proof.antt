@@ -1,11 +1,11 @@
 -- `keep` meets its contract.
-use Prim.Native.Nat.{ℕ, _+_, _-_, min}
-use mathlib.Core.Path.{_≡_, refl, sym, ap, _∙_}
+use Prim.Native.Nat.{ℕ, _-_, min}
+use mathlib.Core.Path.{_≡_, ap, _∙_}
 use mathlib.Core.List.{List}
 use native.Mathlib.Omega.{arith}
 use denote.Ref.{now}
 use lib.ListN.{length, take, drop, length-drop}
-use lib.Seq.{sets, take-all}
+use lib.Seq.{take-all}
 use Rattle.packet.proofs.Lent.{payload-kept}
 use borrow.Author.Needs.{needs}
 use Rattle.taking.proofs.run.keep.Statement.{statement}
