@@ -35,7 +35,7 @@ struct Tally {
 const ROWS: usize = 65536;
 
 fn one_row(kind: Kind, number: usize, row: &[u8]) -> Outcome
-    ensures { λ r. ⌜ (r .differ ≤ 1) × (r .cuts ≤ 65) ⌝ }
+    ensures { λ r. ⌜ (r .differ ≤ 1) × (r .cuts ≤ 1701) ⌝ }
 {
     match kind {
         Kind::Packet => packets::try_row(number, row),

@@ -26,10 +26,10 @@ use settings::Settings;
 ghost use Prim.Native.Nat.{_≤_};
 ghost use lib.ListN.{length};
 
-// The last place at which a stream is cut in two. Time bounds it: with every place, the work would
-// grow with the square of a stream's length. Most first packets end before this place, and the run
-// byte by byte has a cut at every place.
-const PLACES: usize = 64;
+// The last place at which a stream is cut in two: behind the end of the longest first packet. Time
+// bounds it: with every place, the work would grow with the square of a stream's length. The run byte
+// by byte has a cut at every place.
+const PLACES: usize = 1700;
 
 fn list_is(s: Settings, list: &[u8]) -> bool {
     let mut out = [0u8; 128];
@@ -112,7 +112,7 @@ fn cut(host: &[u8], k: usize, row: &[u8]) -> u8
 
 // The last place at which a stream of n bytes is cut.
 fn last_place(n: usize) -> usize
-    ensures { λ r. ⌜ (r ≤ n) × (r ≤ 64) ⌝ }
+    ensures { λ r. ⌜ (r ≤ n) × (r ≤ 1700) ⌝ }
 {
     if n < PLACES { n } else { PLACES }
 }
@@ -120,7 +120,7 @@ fn last_place(n: usize) -> usize
 // The stream cut at one place after the other. At place 0 and at the stream's end one of the two
 // pieces is empty.
 fn cuts(number: usize, host: &[u8], row: &[u8]) -> Outcome
-    ensures { λ r. ⌜ (r .differ ≤ 1) × (r .cuts ≤ 65) ⌝ }
+    ensures { λ r. ⌜ (r .differ ≤ 1) × (r .cuts ≤ 1701) ⌝ }
 {
     let last = last_place(host.len());
     let mut k: usize = 0;
@@ -139,7 +139,7 @@ fn cuts(number: usize, host: &[u8], row: &[u8]) -> Outcome
 
 // The line of a stream that differs before it is cut.
 fn uncut(number: usize, d: u8, how: &[u8]) -> Outcome
-    ensures { λ r. ⌜ (r .differ ≤ 1) × (r .cuts ≤ 65) ⌝ }
+    ensures { λ r. ⌜ (r .differ ≤ 1) × (r .cuts ≤ 1701) ⌝ }
 {
     difference::tell(b"streams", number, d);
     text(how);
@@ -148,7 +148,7 @@ fn uncut(number: usize, d: u8, how: &[u8]) -> Outcome
 
 // Runs a row whole, byte by byte and cut in two, up to the first run that differs.
 pub fn try_row(number: usize, row: &[u8]) -> Outcome
-    ensures { λ r. ⌜ (r .differ ≤ 1) × (r .cuts ≤ 65) ⌝ }
+    ensures { λ r. ⌜ (r .differ ≤ 1) × (r .cuts ≤ 1701) ⌝ }
 {
     if !has_fields(row, 5) {
         return uncut(number, difference::ROW, b"\n");

@@ -1,5 +1,5 @@
 -- `all_rows` is safe, ends and meets its contract. The loop's invariant: the buffer keeps its length, a row differs once at most, and it is
--- cut at most 65 times.
+-- cut at most 1,701 times.
 use mathlib.Core.Path.{_≡_}
 use Prim.Native.Nat.{_≤_, _*_, _-_}
 use lib.ListN.{length}
@@ -8,7 +8,7 @@ use Rattle.vectors.proofs.all_rows.Statement.{statement}
 use Rattle.vectors.proofs.all_rows.Tie as tie
 
 abbrev Inv-loop : tie.InvT-loop
-Inv-loop kind fd b₀ rows₀ differ₀ cuts₀ t9 b rows differ cuts = (length b ≡ length b₀) × (rows ≤ 65536) × (differ ≤ rows) × (cuts ≤ 65 * rows)
+Inv-loop kind fd b₀ rows₀ differ₀ cuts₀ t9 b rows differ cuts = (length b ≡ length b₀) × (rows ≤ 65536) × (differ ≤ rows) × (cuts ≤ 1701 * rows)
 
 abbrev μ-loop : tie.MeasureT-loop
 μ-loop kind fd b₀ rows₀ differ₀ cuts₀ t9 b rows differ cuts = 65536 - rows

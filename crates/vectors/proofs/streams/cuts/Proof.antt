@@ -6,7 +6,7 @@ use Rattle.vectors.proofs.streams.cuts.Statement.{statement}
 use Rattle.vectors.proofs.streams.cuts.Tie as tie
 
 abbrev Inv-loop : tie.InvT-loop
-Inv-loop number host row last k₀ t7 t8 t9 k = (last ≤ length host) × (last ≤ 64) × (k ≤ last + 1)
+Inv-loop number host row last k₀ t7 t8 t9 k = (last ≤ length host) × (last ≤ 1700) × (k ≤ last + 1)
 
 abbrev μ-loop : tie.MeasureT-loop
 μ-loop number host row last k₀ t7 t8 t9 k = last + 1 - k
