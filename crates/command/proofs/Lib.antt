@@ -1,2 +1,8 @@
--- The laws of the receive call, for the layers above.
-pub mod Serving
+-- The laws of command.
+pub mod Demand2
+pub mod Demand1
+pub use Rattle.command.proofs.table.Laws as TableLaws
+pub use Rattle.command.proofs.rules.Laws as RulesLaws
+pub use Rattle.command.proofs.judgement.Laws as JudgementLaws
+pub use Rattle.command.proofs.player.Laws as PlayerLaws
+pub use Rattle.command.proofs.encoder.Lists as EncoderLists

@@ -1,10 +1,40 @@
-// The endpoint: host bytes in, a response out, the controller handed back.
-//
-// Host bytes go to `receive`, which takes the controller by value and hands it back. The call itself,
-// on the controller's parts, is crate `serving`, whose `specs/Calls` the contract cites.
+// The crate command.
+mod carry;
+mod controller;
+mod data;
+mod encoder;
 mod endpoint;
+mod faults;
+mod judgement;
+mod output;
+mod player;
+mod response;
+mod rules;
+mod settings;
+mod table;
+mod transfer;
+mod value;
 
 pub use controller::Controller;
+pub use encoder::Encoded;
+pub use encoder::encode;
+pub use encoder::standard_list;
+pub use endpoint::Answer;
 pub use endpoint::Step;
 pub use endpoint::receive;
-pub use serving::Answer;
+pub use player::Played;
+pub use player::play;
+pub use settings::DisplaySetting;
+pub use settings::Drive;
+pub use settings::LedCurrent;
+pub use settings::Microseconds;
+pub use settings::PatternSequence;
+pub use settings::Settings;
+pub use settings::StaticColour;
+pub use settings::VideoInput;
+pub use settings::VideoMode;
+pub use settings::value_of;
+pub use table::Command;
+pub use table::Found;
+pub use transfer::TransferState;
+pub use value::Value;

@@ -1,14 +1,15 @@
 -- The table of examples, computed.
 use lib.Dec.{T}
-use Rattle.packet.specs.Numbers.{bytesOf}
+use Rattle.packet.specs.Number.{bytesOf}
 use Rattle.packet.specs.Packet.{payload, sum}
 use Rattle.packet.specs.Stream.{size, hasPacket, packetsIn, packets}
 use Rattle.packet.specs.Calls.{joined}
 use lib.Count.{onesIn, ones}
-use Rattle.dlpc200_packet.specs.Packet.{checksum, rightSum, packetOf}
-use Rattle.dlpc200_table.specs.Table.{find, commandOf}
-use Rattle.dlpc200_status.specs.Status.{anyFault, data0, data1, faultBits}
-use Rattle.dlpc200_rules.specs.Judging.{commandIn, wrongCmd1, wrongSize, faultsOf, judgedBy, judge, response}
+use Rattle.dlpc200.specs.Packet.{checksum, rightSum, packetOf}
+use Rattle.dlpc200.specs.Table.{find, commandOf}
+use Rattle.dlpc200.specs.Status.{anyFault, data0, data1, faultBits}
+use Rattle.dlpc200.specs.Judgement.{commandIn, wrongCmd1, wrongSize, faultsOf, judgedBy, judge}
+use Rattle.dlpc200.specs.Response.{response}
 use Rattle.dlpc200.specs.Playing.{judged, answerTo, next, responses, after}
 use Rattle.dlpc200.specs.Examples.{sameList, writeOf, answers, holds, hold, examples}
 

@@ -1,7 +1,3 @@
--- The laws of the call, for its own proofs and for the crates above, and the theorems.
-pub mod Responding
-pub mod Refusing
-pub mod Serving
-pub mod Following
-pub mod Plays
+-- The laws of dlpc200.
+pub mod Playing
 pub mod Examples

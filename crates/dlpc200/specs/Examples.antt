@@ -4,12 +4,12 @@ use mathlib.Core.Bool.{Bool, true, false, _&&_}
 use mathlib.Core.List.{List, [], _∷_, _++_}
 use lib.Dec.{eqb}
 use lib.ListN.{length, replicate}
-use Rattle.packet.specs.Numbers.{bytesOf}
+use Rattle.packet.specs.Number.{bytesOf}
 use Rattle.packet.specs.Packet.{sum}
 use Rattle.packet.specs.Stream.{packets}
 use Rattle.packet.specs.Calls.{joined}
-use Rattle.dlpc200_status.specs.Status.{faultBits}
-use Rattle.dlpc200_table.specs.declared.states.States.{States}
+use Rattle.dlpc200.specs.Status.{faultBits}
+use Rattle.dlpc200.specs.declared.states.States.{States}
 use Rattle.dlpc200.specs.Playing.{responses, after}
 
 pub data Example : Type 0 where

@@ -1,4 +1,13 @@
--- What the contracts cite.
+-- What the contracts of dlpc200 cite.
+pub mod Packet
+pub mod Table
+pub mod States
+pub mod Status
+pub mod Judgement
+pub mod Response
 pub mod Playing
-pub mod Calls
+pub mod Receiver
+pub mod Device
+pub mod Endpoint
+pub mod Exports
 pub mod Examples

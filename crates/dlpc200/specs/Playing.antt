@@ -1,9 +1,10 @@
 -- Packets one after the other: what each draws, and the states at the end.
 use Prim.Native.Nat.{ℕ}
 use mathlib.Core.List.{List, [], _∷_}
-use Rattle.dlpc200_rules.specs.Judging.{arrived, judge, statesAfter, response}
-use Rattle.dlpc200_rules.specs.declared.judging.Judgement.{Judgement}
-use Rattle.dlpc200_table.specs.declared.states.States.{States}
+use Rattle.dlpc200.specs.Judgement.{arrived, judge, statesAfter}
+use Rattle.dlpc200.specs.Response.{response}
+use Rattle.dlpc200.specs.declared.judgement.Judgement.{Judgement}
+use Rattle.dlpc200.specs.declared.states.States.{States}
 
 -- a packet is judged
 unfoldable pub judged : List ℕ → Judgement

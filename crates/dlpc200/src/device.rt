@@ -1,9 +1,9 @@
 // The device: the states and the receiver. Firmware lends it, so it is made of numbers alone and
 // means something whatever they are.
-use dlpc200_packet::Receiver;
-use dlpc200_table::States;
+use crate::receiver::Receiver;
+use crate::states::States;
 ghost use mathlib.Core.Path.{_≡_};
-ghost use Rattle.dlpc200.specs.Calls.{deviceWith, inRule, packetInRule};
+ghost use Rattle.dlpc200.specs.Device.{deviceWith, inRule, packetInRule};
 
 #[repr(C)]
 pub struct Device {

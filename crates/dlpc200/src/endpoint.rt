@@ -1,12 +1,12 @@
 // The receive call: host bytes in, a response out, the device handed back.
 use crate::device::Device;
+use crate::receiver::Receiver;
 use crate::response::respond;
-use dlpc200_packet::Receiver;
-use dlpc200_table::States;
+use crate::states::States;
 ghost use mathlib.Core.Path.{_≡_};
 ghost use Prim.Native.Nat.{_≤_};
 ghost use lib.ListN.{length};
-ghost use Rattle.dlpc200.specs.Calls.{answered, completeBy, outcomeOf, receiveCall};
+ghost use Rattle.dlpc200.specs.Endpoint.{answered, completeBy, outcomeOf, receiveCall};
 
 // What a call answers.
 pub enum Answer {
@@ -40,11 +40,11 @@ fn complete(s: States, r: Receiver, right: bool, taken: usize, out: &mut [u8]) -
 {
     let header = r.header;
     let id = r.id;
-    let j = dlpc200_rules::judge(header, id, right);
+    let j = crate::judgement::judge(header, id, right);
     let length = respond(out, header[0], s, j);
     Step {
         device: Device {
-            states: dlpc200_rules::states_after(s, j),
+            states: crate::judgement::states_after(s, j),
             receiver: r,
         },
         answer: Answer::Answered { taken, length },

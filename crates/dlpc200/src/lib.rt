@@ -1,14 +1,25 @@
-// The DLPC200 on its SPI port: packets in, responses out, states kept.
-//
-// Host bytes go to `receive`, which takes the device by value and hands it back. The commands, the
-// faults and the status bytes are crate `dlpc200_rules`, the receiver crate `dlpc200_packet`. The
-// contracts cite `specs/`: `Playing` (packets one after the other) and `Calls`.
+// The crate dlpc200.
 mod device;
 mod endpoint;
+mod exports;
+mod header;
+mod judgement;
+mod receiver;
 mod response;
+mod states;
+mod status;
+mod table;
 
 pub use device::Device;
-pub use dlpc200_status::fault_count;
 pub use endpoint::Answer;
 pub use endpoint::Step;
 pub use endpoint::receive;
+pub use exports::Reply;
+pub use exports::Stepped;
+pub use exports::dlpc200_device;
+pub use exports::dlpc200_faults;
+pub use exports::dlpc200_receive;
+pub use exports::dlpc200_step;
+pub use receiver::Receiver;
+pub use states::States;
+pub use status::fault_count;

@@ -1,20 +1,20 @@
 // Writing a response to a lent buffer. It carries AA, 00, 00 as CMD2 to CMD4, whatever came.
-use dlpc200_packet::EXTENDED;
-use dlpc200_packet::ONLY;
-use dlpc200_packet::READ;
-use dlpc200_packet::READ_RESP;
-use dlpc200_packet::WRITE_RESP;
-use dlpc200_rules::Judgement;
-use dlpc200_table::Shown;
-use dlpc200_table::States;
+use crate::header::EXTENDED;
+use crate::header::ONLY;
+use crate::header::READ;
+use crate::header::READ_RESP;
+use crate::header::WRITE_RESP;
+use crate::judgement::Judgement;
+use crate::states::Shown;
+use crate::states::States;
 ghost use mathlib.Core.List.{[], _∷_};
 ghost use mathlib.Core.Path.{_≡_};
 ghost use Prim.Native.Nat.{_≤_};
 ghost use lib.ListN.{length};
 ghost use lib.Seq.{sets};
-ghost use Rattle.dlpc200_packet.specs.Packet.{packetOf};
-ghost use Rattle.dlpc200_rules.specs.Judging.{responseType, responseData};
-ghost use Rattle.writer.specs.Writing.{written};
+ghost use Rattle.dlpc200.specs.Packet.{packetOf};
+ghost use Rattle.dlpc200.specs.Response.{responseType, responseData};
+ghost use Rattle.packet.specs.Writer.{written};
 
 // The header of a response with n data bytes.
 fn put_header(out: &mut [u8], kind: u8, n: u8)
@@ -73,8 +73,8 @@ pub(crate) fn respond(out: &mut [u8], cmd1: u8, s: States, j: Judgement) -> usiz
         Judgement::Failed(f) => put_status(
             out,
             kind,
-            dlpc200_status::status0(f),
-            dlpc200_status::status1(f),
+            crate::status::status0(f),
+            crate::status::status1(f),
         ),
         Judgement::Done(c) => match s.shown(c) {
             Shown::State(v) => put_state(out, kind, v),

@@ -3,7 +3,7 @@ use crate::say::case;
 use check::same;
 use packet::Received;
 use packet::Receiver;
-use receiving::receive;
+use packet::receive;
 use saying::count;
 use saying::text_if;
 ghost use Prim.Native.Nat.{_≤_, _<_};

@@ -1,11 +1,11 @@
 // A received packet, written again from its fields and its held payload.
+use packet::Written;
 use saying::text;
 use saying::text_if;
-use writer::Written;
 
 // Says whether the packet of this header and payload is written as p.
 fn again(out: &mut [u8], h: [u8; 6], payload: &[u8], p: &[u8]) {
-    match writer::write_packet(out, h[0], h[1], h[2], h[3], payload) {
+    match packet::write_packet(out, h[0], h[1], h[2], h[3], payload) {
         Written::Length(k) => tell(rows::starts_as(out, k, p)),
         Written::NoRoom => text(b"no room"),
     }

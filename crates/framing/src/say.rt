@@ -26,7 +26,7 @@ pub fn bytes(b: &[u8]) {
 
 // The size of the next packet at a place, or that there is none.
 pub fn next(b: &[u8], at: usize) {
-    match receiving::next_packet(b, at) {
+    match packet::next_packet(b, at) {
         packet::Next::Packet(size) => count(b" ", size),
         packet::Next::Nothing => text(b" none"),
     }

@@ -5,7 +5,7 @@ use crate::say::bytes;
 use crate::say::case;
 use crate::say::next;
 use packet::Receiver;
-use receiving::receive;
+use packet::receive;
 use saying::count;
 use saying::text;
 use saying::text_if;

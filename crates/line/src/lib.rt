@@ -1,6 +1,6 @@
 // The line that tells the answer to a report.
-use records::Outcome;
 use report::Checked;
+use report::Outcome;
 use saying::count;
 use saying::text;
 

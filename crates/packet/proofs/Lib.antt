@@ -1,9 +1,9 @@
--- The laws of the packet layer, for its own proofs and for the layers above.
+-- The laws of packet.
 pub mod Cases
-pub mod Lists
-pub mod Numbers
-pub mod Framing
-pub mod Receiving
-pub mod Lent
 pub mod Calls
-pub mod Streams
+pub use Rattle.packet.proofs.bytes.Laws as BytesLaws
+pub use Rattle.packet.proofs.number.Laws as NumberLaws
+pub use Rattle.packet.proofs.stream.Laws as StreamLaws
+pub use Rattle.packet.proofs.receiver.Laws as ReceiverLaws
+pub use Rattle.packet.proofs.receiver.Lent as ReceiverLent
+pub use Rattle.packet.proofs.writer.Laws as WriterLaws

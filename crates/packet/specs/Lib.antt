@@ -1,7 +1,8 @@
--- What the contracts of the packet layer cite, in the order of document 01.
-pub mod Numbers
+-- What the contracts of packet cite.
+pub mod Number
 pub mod Packet
 pub mod Stream
-pub mod Receiving
-pub mod Taking
+pub mod Receiver
+pub mod Writer
 pub mod Calls
+pub mod Inner

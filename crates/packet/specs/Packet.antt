@@ -4,7 +4,7 @@ use mathlib.Core.Bool.{Bool}
 use mathlib.Core.List.{List, [], _∷_, _++_}
 use lib.Dec.{eqb}
 use lib.ListN.{length, getD, take, drop}
-use Rattle.packet.specs.Numbers.{bytesOf}
+use Rattle.packet.specs.Number.{bytesOf}
 
 -- The fields of a packet, by their places.
 

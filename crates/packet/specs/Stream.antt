@@ -5,8 +5,8 @@ use mathlib.Core.List.{List, [], _∷_}
 use lib.Dec.{leb}
 use lib.ListN.{length, take, drop}
 use Rattle.packet.specs.Packet.{payloadLength}
-use Rattle.packet.specs.declared.next.Next.{Next}
-use Rattle.packet.specs.declared.next.Next.the-variants.{Packet, Nothing}
+use Rattle.packet.specs.declared.stream.Next.{Next}
+use Rattle.packet.specs.declared.stream.Next.the-variants.{Packet, Nothing}
 
 -- the length field frames every packet: 7 bytes, and what bytes 4 and 5 say
 unfoldable pub size : List ℕ → ℕ

@@ -1,7 +1,11 @@
-// The tuning report checked: any bytes in, a yes or a no out.
-//
-// The contract of `check` cites `Demand3` and `verdict` of the crate tuning, and `specs/Answers`.
+// The crate report.
+mod end;
+mod head;
+mod record;
+mod same;
+mod trials;
 mod verdict;
 
+pub use record::Outcome;
 pub use verdict::Checked;
 pub use verdict::check;

@@ -1,17 +1,17 @@
 // The yes or the no.
-use equality::same_settings;
-use player::play;
-use records::Outcome;
-use records::refusal;
-use report_end::winner_of;
-use report_head::count_of;
-use settings::Settings;
-use trials::best_of;
+use crate::end::winner_of;
+use crate::head::count_of;
+use crate::record::Outcome;
+use crate::record::refusal;
+use crate::same::same_settings;
+use crate::trials::best_of;
+use command::Settings;
+use command::play;
 ghost use mathlib.Core.Path.{_≡_};
-ghost use Rattle.settings.specs.Settings.{factory};
-ghost use Rattle.tuning.specs.Report.{verdict};
-ghost use Rattle.tuning.specs.Claim.{Demand3};
-ghost use Rattle.report.specs.Answers.{verdictIn, scoreIn, settingsIn};
+ghost use Rattle.command.specs.Settings.{factory};
+ghost use Rattle.report.specs.Report.{verdict};
+ghost use Rattle.report.specs.Claim.{Demand3};
+ghost use Rattle.report.specs.Verdict.{verdictIn, scoreIn, settingsIn};
 
 // The answer to a report.
 pub struct Checked {

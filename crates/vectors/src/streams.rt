@@ -16,13 +16,13 @@ use crate::run::byte_by_byte;
 use crate::run::feed;
 use crate::run::start;
 use command::Controller;
-use encoder::Encoded;
-use judging::TransferState;
+use command::Encoded;
+use command::Settings;
+use command::TransferState;
 use packet::Receiver;
 use rows::starts_as;
 use saying::count;
 use saying::text;
-use settings::Settings;
 ghost use Prim.Native.Nat.{_≤_};
 ghost use lib.ListN.{length};
 
@@ -33,7 +33,7 @@ const PLACES: usize = 1700;
 
 fn list_is(s: Settings, list: &[u8]) -> bool {
     let mut out = [0u8; 128];
-    match encoder::standard_list(s, &mut out) {
+    match command::standard_list(s, &mut out) {
         Encoded::Length(n) => starts_as(&out, n, list),
         _ => false,
     }

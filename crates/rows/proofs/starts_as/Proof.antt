@@ -14,20 +14,15 @@ never h = let z : _≡_ {A = ℕ} 0 1 = cc in absurd (omega arith)
 returns : tie.Need-returns
 returns c = ((λ e. never e), (λ s. absurd (omega (arith, s .0))))
 
-sub-same : tie.Need-sub-same
-sub-same c = search needs
-
-part-same-start : tie.Need-part-same-start
-part-same-start c = search needs
-
-part-same-end : tie.Need-part-same-end
-part-same-end c = search needs
-
-same-requires : tie.Need-same-requires
-same-requires c κs = search needs
-
 returns-2 : tie.Need-returns-2
 returns-2 c = ((λ e. (omega arith, simp sub-zero at (c .same .ensures .0 e))), (λ s. c .same .ensures .1 (simp sub-zero (s .1))))
 
 pub starts-as-spec : {M : Type 1} → statement M
-starts-as-spec = tie.close (tie.spec returns sub-same part-same-start part-same-end same-requires returns-2)
+starts-as-spec =
+    tie.close (tie.spec
+    returns
+    (λ c. search needs)
+    (λ c. search needs)
+    (λ c. search needs)
+    (λ c κs. search needs)
+    returns-2)

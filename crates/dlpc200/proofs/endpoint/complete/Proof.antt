@@ -5,22 +5,18 @@ use mathlib.Core.List.{List}
 use mathlib.Core.Bool.{Bool}
 use denote.Ref.{now}
 use lib.ListN.{length, getD}
-use Rattle.writer.specs.Writing.{written}
-use Rattle.dlpc200_packet.specs.Packet.{packetOf}
-use Rattle.dlpc200_rules.specs.Judging.{arrivedBy, judge, responseType, responseData, response, statesAfter}
-use Rattle.dlpc200.specs.Calls.{Answers, judgedIn, responseIn, completeBy}
-use Rattle.dlpc200_packet.specs.declared.receiver.Receiver.{Receiver}
+use Rattle.packet.specs.Writer.{written}
+use Rattle.dlpc200.specs.Packet.{packetOf}
+use Rattle.dlpc200.specs.Judgement.{arrivedBy, judge, statesAfter}
+use Rattle.dlpc200.specs.Response.{responseType, responseData, response}
+use Rattle.dlpc200.specs.Endpoint.{Answers, judgedIn, responseIn, completeBy}
+use Rattle.dlpc200.specs.declared.receiver.Receiver.{Receiver}
 use Rattle.dlpc200.specs.declared.device.Device.{Device}
-use Rattle.dlpc200_rules.specs.declared.judging.Judgement.{Judgement}
-use Rattle.dlpc200_table.specs.declared.states.States.{States}
+use Rattle.dlpc200.specs.declared.judgement.Judgement.{Judgement}
+use Rattle.dlpc200.specs.declared.states.States.{States}
 use borrow.Author.Needs.{needs}
 use Rattle.dlpc200.proofs.endpoint.complete.Statement.{statement}
 use Rattle.dlpc200.proofs.endpoint.complete.Tie as tie
-use Rattle.dlpc200.proofs.endpoint.complete.Reads as reads
-use Rattle.dlpc200.proofs.endpoint.complete.Lts as lts
-use Rattle.dlpc200.proofs.response.respond.Reads as respond-reads
-use Rattle.dlpc200_rules.proofs.judge.Reads as judge-reads
-use Rattle.dlpc200_rules.proofs.states_after.Reads as states-after-reads
 
 -- the packet that the parts make is the response
 response-of : (s : States) (n : ℕ) (right : Bool) (r : Receiver) {j : Judgement} → j ≡ judge (arrivedBy (r .header) (r .id) right)
@@ -30,21 +26,6 @@ response-of s n right r e = ap (λ (j : Judgement). packetOf (responseType (getD
 
 device-eq : {s s′ : States} {r : Receiver} → s ≡ s′ → _≡_ {A = Device} (record { states = s; receiver = r }) (record { states = s′; receiver = r })
 device-eq e = cc
-
-judge-requires : tie.Need-judge-requires
-judge-requires c κs = search needs
-
-array-read-respond : tie.Need-array-read-respond
-array-read-respond c = search needs
-
-respond-requires : tie.Need-respond-requires
-respond-requires c κs = search needs
-
-states-after-requires : tie.Need-states-after-requires
-states-after-requires c κs = search needs
-
-same-length : tie.Need-same-length
-same-length c = search needs
 
 returns : tie.Need-returns
 returns c =
@@ -61,9 +42,9 @@ pub complete-spec : {M : Type 1} → statement M
 complete-spec =
     tie.close
     (tie.spec
-    judge-requires
-    array-read-respond
-    respond-requires
-    states-after-requires
-    same-length
+    (λ c κs. search needs)
+    (λ c. search needs)
+    (λ c κs. search needs)
+    (λ c κs. search needs)
+    (λ c. search needs)
     returns)

@@ -6,18 +6,14 @@ use Prim.Native.Nat.{ℕ, _≤_}
 use borrow.Author.Tests.{lt-ltb, le-ltb, not-true, not-false}
 use denote.Ref.{now}
 use lib.ListN.{length}
-use Rattle.dlpc200_packet.specs.Receiving.{receiving}
-use Rattle.dlpc200_packet.specs.declared.receiver.Received.{Received}
-use Rattle.dlpc200.specs.Calls.{inRule, judgedIn, responseIn, completeBy, After, waiting, answered, receiveCall}
+use Rattle.dlpc200.specs.Receiver.{receiving}
+use Rattle.dlpc200.specs.declared.receiver.Received.{Received}
+use Rattle.dlpc200.specs.Device.{inRule}
+use Rattle.dlpc200.specs.Endpoint.{judgedIn, responseIn, completeBy, After, waiting, answered, receiveCall}
 use Rattle.dlpc200.specs.declared.device.Device.{Device}
 use borrow.Author.Needs.{needs}
 use Rattle.dlpc200.proofs.endpoint.receive.Statement.{statement}
 use Rattle.dlpc200.proofs.endpoint.receive.Tie as tie
-use Rattle.dlpc200.proofs.endpoint.receive.Reads as reads
-use Rattle.dlpc200.proofs.endpoint.receive.Lts as lts
-use Rattle.dlpc200.proofs.device.Device.in_rule.Reads as in-rule-reads
-use Rattle.dlpc200.proofs.endpoint.complete.Reads as complete-reads
-use Rattle.dlpc200_packet.proofs.receiver.Receiver.receive.Reads as receive-reads
 
 -- A call that is not refused, t being what the receiver took.
 module _
@@ -35,9 +31,6 @@ module _
   unfolding receiveCall responseIn judgedIn
   answers f = rw (le-ltb (length out) 64 l, r, ← e, f)
 
-in-rule-requires : tie.Need-in-rule-requires
-in-rule-requires c κs = search needs
-
 returns : tie.Need-returns
 unfolding receiveCall
 returns c = let e = lt-ltb _ _ (c .if1 .taken) in (rw e, rw e, rw e)
@@ -49,9 +42,6 @@ returns-2 c =
     let f = sym (c .before .before .in-rule .ensures) ∙ not-true (c .before .before .in-rule .result) (c .if2 .taken) in
     (rw (e, f), rw (e, f), rw (e, f))
 
-receive-requires : tie.Need-receive-requires
-receive-requires c κs = search needs
-
 returns-3 : tie.Need-returns-3
 returns-3 c =
     let q = c .before .before .before .before .before .before in
@@ -60,12 +50,6 @@ returns-3 c =
     let w = waits (a .d) (now (a .input)) (now (a .out)) (q .before .if1 .left) (sym (q .before .before .in-rule .ensures) ∙ not-false (q .before .before .in-rule .result) (q .if2 .left))
     (t .ensures) (not-true (t .result .complete) (c .if3 .taken)) in
     (sym (ap (λ (x : After). x .answer) w), sym (ap (λ (x : After). x .device) w), sym (ap (λ (x : After). x .output) w))
-
-complete-requires : tie.Need-complete-requires
-complete-requires c κs = search needs
-
-same-length : tie.Need-same-length
-same-length c = search needs
 
 returns-4 : tie.Need-returns-4
 returns-4 c =
@@ -81,11 +65,11 @@ pub receive-spec : {M : Type 1} → statement M
 receive-spec =
     tie.close
     (tie.spec
-    in-rule-requires
+    (λ c κs. search needs)
     returns
     returns-2
-    receive-requires
+    (λ c κs. search needs)
     returns-3
-    complete-requires
-    same-length
+    (λ c κs. search needs)
+    (λ c. search needs)
     returns-4)

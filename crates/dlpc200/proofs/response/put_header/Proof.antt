@@ -4,11 +4,6 @@ use lib.ListN.{length-set}
 use borrow.Author.Needs.{needs}
 use Rattle.dlpc200.proofs.response.put_header.Statement.{statement}
 use Rattle.dlpc200.proofs.response.put_header.Tie as tie
-use Rattle.dlpc200.proofs.response.put_header.Reads as reads
-use Rattle.dlpc200.proofs.response.put_header.Lts as lts
-
-slice-write-out : tie.Need-slice-write-out
-slice-write-out c = search needs
 
 slice-write-out-2 : tie.Need-slice-write-out-2
 slice-write-out-2 c = simp length-set (omega arith)
@@ -25,21 +20,15 @@ slice-write-out-5 c = simp length-set (omega arith)
 slice-write-out-6 : tie.Need-slice-write-out-6
 slice-write-out-6 c = simp length-set (omega arith)
 
-same-length : tie.Need-same-length
-same-length c = search needs
-
-returns : tie.Need-returns
-returns c = search needs
-
 pub put-header-spec : {M : Type 1} → statement M
 put-header-spec =
     tie.close
     (tie.spec
-    slice-write-out
+    (λ c. search needs)
     slice-write-out-2
     slice-write-out-3
     slice-write-out-4
     slice-write-out-5
     slice-write-out-6
-    same-length
-    returns)
+    (λ c. search needs)
+    (λ c. search needs))

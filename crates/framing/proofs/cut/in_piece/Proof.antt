@@ -5,17 +5,16 @@ use borrow.Author.Needs.{needs}
 use Rattle.framing.proofs.cut.in_piece.Statement.{statement}
 use Rattle.framing.proofs.cut.in_piece.Tie as tie
 
-rem-n : tie.Need-rem-n
-rem-n c = search needs
-
 sub-n : tie.Need-sub-n
 sub-n c = omega (arith, mod-lt (c .args .at) (c .pre .0))
 
 returns : tie.Need-returns
 returns c = omega (arith, mod-lt (c .before .args .at) (c .before .pre .0))
 
-returns-2 : tie.Need-returns-2
-returns-2 c = search needs
-
 pub in-piece-spec : {M : Type 1} → statement M
-in-piece-spec = tie.close (tie.spec rem-n sub-n returns returns-2)
+in-piece-spec =
+    tie.close (tie.spec
+    (λ c. search needs)
+    sub-n
+    returns
+    (λ c. search needs))

@@ -7,33 +7,21 @@ use native.Mathlib.Omega.{arith}
 use borrow.Author.Tests.{not-true, not-false}
 use denote.Ref.{now}
 use lib.ListN.{length, take, drop}
-use Rattle.packet.specs.Numbers.{Bytes}
-use Rattle.packet.proofs.Numbers.{bytes-at}
-use Rattle.settings.specs.Settings.{factory}
-use Rattle.settings.specs.declared.settings.Settings.{Settings}
-use Rattle.settings.proofs.Keeping.{kept-factory, in-rule-of}
-use Rattle.judging.specs.Playing.{play, clean}
-use Rattle.records.specs.Records.{Good}
-use Rattle.tuning.specs.Report.{Trials, readTrials, readHead}
-use Rattle.records.specs.Found.{outOf}
-use Rattle.report_end.specs.Winner.{winnerAt}
-use Rattle.records.specs.declared.record.Outcome.the-variants.{Refused}
-use Rattle.trials.proofs.Lowest.{First}
-use Rattle.player.specs.Played.{endSettings, endClean}
-use Rattle.report.proofs.Promised.{promised-no, promised-yes, best-bad, best-good, head-no, trials-no, winner-no, room, short, refused-18, refused-19, accepted-with}
+use Rattle.packet.specs.Number.{Bytes}
+use Rattle.packet.proofs.NumberLaws.{bytes-at}
+use Rattle.command.specs.Settings.{factory}
+use Rattle.command.specs.declared.settings.Settings.{Settings}
+use Rattle.command.proofs.RulesLaws.{kept-factory, in-rule-of}
+use Rattle.command.specs.Player.{play, clean, endSettings, endClean}
+use Rattle.report.specs.Record.{Good}
+use Rattle.report.specs.Report.{Trials, readTrials, readHead}
+use Rattle.report.specs.Inner.{outOf, winnerAt}
+use Rattle.report.specs.declared.record.Outcome.the-variants.{Refused}
+use Rattle.report.proofs.trials.Lowest.{First}
+use Rattle.report.proofs.verdict.Laws.{promised-no, promised-yes, best-bad, best-good, head-no, trials-no, winner-no, room, short, refused-18, refused-19, accepted-with}
 use borrow.Author.Needs.{needs}
 use Rattle.report.proofs.verdict.check.Statement.{statement}
 use Rattle.report.proofs.verdict.check.Tie as tie
-use Rattle.report.proofs.verdict.check.Reads as reads
-use Rattle.report.proofs.verdict.check.Lts as lts
-use Rattle.report_end.proofs.winner_of.Reads as winner-of-reads
-use Rattle.report_head.proofs.count_of.Reads as count-of-reads
-use Rattle.records.proofs.refusal.Reads as refusal-reads
-use Rattle.equality.proofs.same_settings.Reads as same-settings-reads
-use Rattle.report.proofs.verdict.refused.Reads as refused-reads
-use Rattle.settings.proofs.settings.Settings.factory.Reads as factory-reads
-use Rattle.player.proofs.play.Reads as play-reads
-use Rattle.trials.proofs.best_of.Reads as best-of-reads
 
 -- the report, whose elements are bytes
 abbrev reportIn : tie.After-shared-slice-known → List ℕ
@@ -109,18 +97,6 @@ played c =
           ∙ ap (λ (x : Bool). x && clean factory (slice c)) e,
     )
 
-count-of-requires : tie.Need-count-of-requires
-count-of-requires c κs = search needs
-
-enum-known-head : tie.Need-enum-known-head
-enum-known-head c = search needs
-
-enum-told : tie.Need-enum-told
-enum-told c = search needs
-
-refused-requires : tie.Need-refused-requires
-refused-requires c κs = search needs
-
 returns : tie.Need-returns
 returns c =
     let o = c .before in
@@ -128,18 +104,6 @@ returns c =
     let r = reportIn (k .before) in
     promised-no r (all-bytes (k .before)) (head-no r (sym (k .count-of .ensures) ∙ ap outOf (o .enum-told .given .1))) (c .refused .ensures .0 ∙ o .enum-told .given .1)
     (c .refused .ensures .1) (c .refused .ensures .2)
-
-best-of-requires : tie.Need-best-of-requires
-best-of-requires c κs = search needs
-
-enum-known-next : tie.Need-enum-known-next
-enum-known-next c = search needs
-
-enum-told-2 : tie.Need-enum-told-2
-enum-told-2 c = search needs
-
-refused-requires-2 : tie.Need-refused-requires-2
-refused-requires-2 c κs = search needs
 
 returns-2 : tie.Need-returns-2
 returns-2 c =
@@ -154,18 +118,6 @@ returns-2 c =
     (trials-no r (h .head .given .0 .0) (head-is h)
     (best-bad x b (t .best-of .ensures) (o .enum-told2 .given .1)))
     (c .refused2 .ensures .0 ∙ o .enum-told2 .given .1) (c .refused2 .ensures .1) (c .refused2 .ensures .2)
-
-winner-of-requires : tie.Need-winner-of-requires
-winner-of-requires c κs = search needs
-
-enum-told-3 : tie.Need-enum-told-3
-enum-told-3 c = search needs
-
-enum-told-4 : tie.Need-enum-told-4
-enum-told-4 c = search needs
-
-refused-requires-3 : tie.Need-refused-requires-3
-refused-requires-3 c κs = search needs
 
 returns-3 : tie.Need-returns-3
 returns-3 c =
@@ -186,9 +138,6 @@ returns-3 c =
 add-ship : tie.Need-add-ship
 add-ship c = omega (arith, room-for c .0, room-for c .1)
 
-factory-requires : tie.Need-factory-requires
-factory-requires c κs = search needs
-
 add-play : tie.Need-add-play
 add-play c = omega (arith, room-for (c .before) .0, room-for (c .before) .1)
 
@@ -197,18 +146,6 @@ sub-play c = omega (arith, room-for (c .before) .0)
 
 part-play-start : tie.Need-part-play-start
 part-play-start c = omega (arith, room-for (c .before) .0)
-
-part-play-end : tie.Need-part-play-end
-part-play-end c = search needs
-
-play-requires : tie.Need-play-requires
-play-requires c κs = search needs
-
-refusal-requires : tie.Need-refusal-requires
-refusal-requires c κs = search needs
-
-refused-requires-4 : tie.Need-refused-requires-4
-refused-requires-4 c κs = search needs
 
 returns-4 : tie.Need-returns-4
 returns-4 c =
@@ -224,15 +161,6 @@ returns-4 c =
     let g = played q in
     promised-no r (all-bytes k) (refused-18 r (all-bytes k) (h .head .given .0 .0) (head-is h) (a .0) (a .1) (b .trial) (b .score) (b .settings) (a .3) (d .enum-told3 .given .0 .0) (winner-is d) (g .1) (not-true (q .play .result .clean) (c .before .before .if1 .taken)))
     (c .refused4 .ensures .0 ∙ c .before .refusal .ensures ∙ ap (λ (x : ℕ). Refused 18 (x + 6)) (a .2)) (c .refused4 .ensures .1) (c .refused4 .ensures .2)
-
-same-settings-requires : tie.Need-same-settings-requires
-same-settings-requires c κs = search needs
-
-refusal-requires-2 : tie.Need-refusal-requires-2
-refusal-requires-2 c κs = search needs
-
-refused-requires-5 : tie.Need-refused-requires-5
-refused-requires-5 c κs = search needs
 
 returns-5 : tie.Need-returns-5
 returns-5 c =
@@ -276,33 +204,33 @@ pub check-spec : {M : Type 1} → statement M
 check-spec =
     tie.close
     (tie.spec
-    count-of-requires
-    enum-known-head
-    enum-told
-    refused-requires
+    (λ c κs. search needs)
+    (λ c. search needs)
+    (λ c. search needs)
+    (λ c κs. search needs)
     returns
-    best-of-requires
-    enum-known-next
-    enum-told-2
-    refused-requires-2
+    (λ c κs. search needs)
+    (λ c. search needs)
+    (λ c. search needs)
+    (λ c κs. search needs)
     returns-2
-    winner-of-requires
-    enum-told-3
-    enum-told-4
-    refused-requires-3
+    (λ c κs. search needs)
+    (λ c. search needs)
+    (λ c. search needs)
+    (λ c κs. search needs)
     returns-3
     add-ship
-    factory-requires
+    (λ c κs. search needs)
     add-play
     sub-play
     part-play-start
-    part-play-end
-    play-requires
-    refusal-requires
-    refused-requires-4
+    (λ c. search needs)
+    (λ c κs. search needs)
+    (λ c κs. search needs)
+    (λ c κs. search needs)
     returns-4
-    same-settings-requires
-    refusal-requires-2
-    refused-requires-5
+    (λ c κs. search needs)
+    (λ c κs. search needs)
+    (λ c κs. search needs)
     returns-5
     returns-6)

@@ -14,31 +14,10 @@ Inv-loop r b out₀ c₀ written₀ at₀ out c written at = (length out ≡ len
 abbrev μ-loop : tie.MeasureT-loop
 μ-loop r b out₀ c₀ written₀ at₀ out c written at = length b - at
 
-loop-holds : tie.Need-loop-holds Inv-loop μ-loop
-loop-holds c = search needs
-
-call-requires : tie.Need-call-requires Inv-loop μ-loop
-call-requires c κs = search needs
-
-same-length : tie.Need-same-length Inv-loop μ-loop
-same-length c = search needs
-
-returns : tie.Need-returns Inv-loop μ-loop
-returns c = search needs
-
-add-at : tie.Need-add-at Inv-loop μ-loop
-add-at c = search needs
-
 add-written : tie.Need-add-written Inv-loop μ-loop
 add-written c =
     let l = c .before .before .before .before .before .before .before in
     omega (arith, c .before .before .before .before .before .call .ensures .1, l .loop .inv .0, l .before .before .before .before .good)
-
-loop-less : tie.Need-loop-less Inv-loop μ-loop
-loop-less c = search needs
-
-loop-again : tie.Need-loop-again Inv-loop μ-loop
-loop-again c = search needs
 
 pub feed-spec : {M : Type 1} → statement M
 feed-spec =
@@ -46,11 +25,11 @@ feed-spec =
     (tie.spec
     Inv-loop
     μ-loop
-    loop-holds
-    call-requires
-    same-length
-    returns
-    add-at
+    (λ c. search needs)
+    (λ c κs. search needs)
+    (λ c. search needs)
+    (λ c. search needs)
+    (λ c. search needs)
     add-written
-    loop-less
-    loop-again)
+    (λ c. search needs)
+    (λ c. search needs))

@@ -1,6 +1,6 @@
 -- `Receiver::fresh` meets its contract: the constant is the definition's receiver.
 use mathlib.Core.Path.{refl}
-use Rattle.packet.specs.Receiving.{zeros}
+use Rattle.packet.specs.Receiver.{zeros}
 use Rattle.packet.proofs.receiver.Receiver.fresh.Statement.{statement}
 use Rattle.packet.proofs.receiver.Receiver.fresh.Tie as tie
 use Rattle.packet.proofs.receiver.Receiver.fresh.Reads as reads

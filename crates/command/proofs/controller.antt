@@ -1,0 +1,2 @@
+-- The laws of controller.
+pub mod Laws

@@ -1,0 +1,28 @@
+-- The parts of "in rule".
+use mathlib.Core.Path.{_≡_}
+use mathlib.Core.Bool.{true, _&&_}
+use Rattle.packet.proofs.Cases.{and-left, and-right, and-both}
+use Rattle.command.specs.Rules.{settingsInRule}
+use Rattle.command.specs.Controller.{transferInRule, packetInRule, inRule}
+use Rattle.command.specs.declared.controller.Controller.{Controller}
+
+pub record Rule (c : Controller) : Type 0 where
+  pub settings : settingsInRule (c .settings) ≡ true
+  pub transfer : transferInRule (c .transfer) ≡ true
+  pub packet : packetInRule (c .receiver .header) (c .receiver .received) ≡ true
+
+pub rule-parts : (c : Controller) → inRule c ≡ true → Rule c
+unfolding inRule
+rule-parts c h =
+    let a = settingsInRule (c .settings) in
+    let b = transferInRule (c .transfer) in
+    let d = packetInRule (c .receiver .header) (c .receiver .received) in
+    record { settings = and-left a b (and-left (a && b) d h); transfer = and-right a b (and-left (a && b) d h); packet = and-right (a && b) d h }
+
+pub rule-whole : (c : Controller) → Rule c → inRule c ≡ true
+unfolding inRule
+rule-whole c r =
+    let a = settingsInRule (c .settings) in
+    let b = transferInRule (c .transfer) in
+    let d = packetInRule (c .receiver .header) (c .receiver .received) in
+    and-both (a && b) d (and-both a b (r .settings) (r .transfer)) (r .packet)

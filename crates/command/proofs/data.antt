@@ -1,0 +1,2 @@
+-- The laws of data.
+pub mod Laws

@@ -1,0 +1,252 @@
+-- The receive call on a head that is in rule: it stays in rule, and cutting a stream changes nothing.
+use Prim.Native.Nat.{ℕ, _+_, _-_, _<_, _≤_, max}
+use mathlib.Core.Path.{_≡_, refl, ap, sym, subst, _∙_}
+use mathlib.Core.Bool.{Bool, true, false, cond}
+use mathlib.Core.List.{List, [], _∷_, _++_}
+use mathlib.Core.Option.{Option, none, some}
+use native.Mathlib.Omega.{arith}
+use lib.Dec.{ltb}
+use borrow.Author.Tests.{lt-ltb, le-ltb, ltb-true, ltb-false, le-leb}
+use lib.ListN.{length, take}
+use lib.Seq.{sets}
+use Rattle.packet.specs.Packet.{payloadLength}
+use Rattle.packet.specs.Receiver.{with, missing, waiting as receiverWaiting, completed}
+use Rattle.packet.specs.Calls.{Call, servedOne, served, joined}
+use Rattle.packet.specs.declared.receiver.Receiver.{Receiver}
+use Rattle.packet.specs.declared.receiver.Received.{Received}
+use Rattle.packet.proofs.Cases.{bool-cases, cond-cases}
+use Rattle.packet.proofs.ReceiverLaws.{Made, made-with, made-between, with-nil, missing-least, after, cut, behind, waits, completes}
+use Rattle.packet.proofs.Calls.{Streaming, shifted, in-pieces}
+use Rattle.command.specs.Table.{commandOf}
+use Rattle.command.specs.Transfer.{Transfer, held}
+use Rattle.command.specs.Faults.{Arrived, faults, anyFault}
+use Rattle.command.specs.Judgement.{judgeData, judge}
+use Rattle.command.specs.Carry.{settingsAfter}
+use Rattle.command.specs.Controller.{heldIn, transferIn, transferInRule, transferStateAfter, packetInRule, inRule}
+use Rattle.command.specs.Endpoint.{Outcome, Refuses, Waits, Answers, arrivedIn, judgedIn, carriedOut, responseIn, takenBy, After, waiting, answered, receiveCall}
+use Rattle.command.specs.declared.judgement.Judgement.{Judgement}
+use Rattle.command.specs.declared.judgement.Judgement.the-variants.{Refuse, Hold, Write, Read}
+use Rattle.command.specs.declared.transfer.TransferState.{TransferState}
+use Rattle.command.specs.declared.controller.Controller.{Controller}
+use Rattle.command.proofs.controller.Laws.{Rule, rule-parts, rule-whole}
+use Rattle.command.proofs.table.Laws.{found}
+use Rattle.command.proofs.rules.Laws.{kept-by, in-rule-of}
+use Rattle.command.proofs.judgement.Laws.{sound}
+use Rattle.command.proofs.player.Laws.{kept-judgement}
+use Rattle.command.proofs.transfer.Laws.{fits-hold, held-length}
+
+-- what a call shows of its answer: the bytes taken, and the response at the output's start
+abbrev pub takenOf : Outcome → ℕ
+takenOf (Refuses n) = 0
+takenOf (Waits n) = n
+takenOf (Answers n m) = n
+
+abbrev pub givenBy : Outcome → List ℕ → Option (List ℕ)
+givenBy (Refuses n) out = none
+givenBy (Waits n) out = none
+givenBy (Answers n m) out = some (take m out)
+
+abbrev pub shown : After → Call Controller (List ℕ)
+shown r = record { taken = takenOf (r .answer); gives = givenBy (r .answer) (r .output); state = r .controller }
+
+-- the receive call with this output lent
+abbrev pub serves : List ℕ → Controller → List ℕ → Call Controller (List ℕ)
+serves out c b = shown (receiveCall c b out)
+
+-- a head in rule, as the code has it
+pub record Ready (c : Controller) : Type 0 where
+  pub rule : inRule c ≡ true
+  pub made : Made (c .receiver)
+
+-- the two ends of a call that is not refused
+module _ (c : Controller) (b out : List ℕ) (k : Ready c) (l : 64 ≤ length out) where
+  pub not-refused : receiveCall c b out ≡ cond (takenBy c b .complete) (answered c (takenBy c b) out) (waiting c (takenBy c b) out)
+  unfolding receiveCall
+  not-refused = rw (le-ltb (length out) 64 l, k .rule)
+
+  pub call-waits : length b < missing (c .receiver) b
+      → receiveCall c b out ≡ waiting c (receiverWaiting (c .receiver) (heldIn (c .transfer)) b) out
+  unfolding receiverWaiting
+  call-waits h = not-refused ∙ ap (λ (t : Received). cond (t .complete) (answered c t out) (waiting c t out)) (waits (c .receiver) (heldIn (c .transfer)) b h)
+
+  pub call-answers : missing (c .receiver) b ≤ length b
+      → receiveCall c b out ≡ answered c (completed (c .receiver) (heldIn (c .transfer)) b (missing (c .receiver) b)) out
+  unfolding completed
+  call-answers h = not-refused ∙ ap (λ (t : Received). cond (t .complete) (answered c t out) (waiting c t out)) (completes (c .receiver) (heldIn (c .transfer)) b h)
+
+  by-ends : {P : Type 0} → (length b < missing (c .receiver) b → P) → (missing (c .receiver) b ≤ length b → P) → P
+  by-ends f g =
+      bool-cases (ltb (length b) (missing (c .receiver) b))
+      (λ e. f (ltb-true (length b) (missing (c .receiver) b) e))
+      (λ e. g (ltb-false (length b) (missing (c .receiver) b) e))
+
+-- A transfer that is added to keeps within the hold.
+
+abbrev pub Bounded : ℕ → Judgement → Type 0
+Bounded n (Refuse k) = Unit {0}
+Bounded n (Hold c) = n ≤ 1024
+Bounded n (Write v) = Unit {0}
+Bounded n (Read c) = Unit {0}
+
+bounded-any : (n : ℕ) → n ≤ 1024 → (j : Judgement) → Bounded n j
+bounded-any n h (Refuse k) = tt
+bounded-any n h (Hold c) = h
+bounded-any n h (Write v) = tt
+bounded-any n h (Read c) = tt
+
+pub bounded : (mode : ℕ) (t : Transfer) (p : Arrived) → Bounded (length (held t) + p .size) (judge mode t p)
+unfolding judge
+bounded mode t p =
+    let f = commandOf (p .cmd1) (p .cmd2) in
+    cond-cases (Bounded (length (held t) + p .size)) (anyFault (faults f t p))
+    (λ _. tt)
+    (λ e. bounded-any (length (held t) + p .size) (fits-hold f t p e) (judgeData f mode (p .type) (p .flags) (held t ++ p .body)))
+
+transfer-kept : (t : TransferState) (n : ℕ) (j : Judgement) → transferInRule t ≡ true → Bounded n j → transferInRule (transferStateAfter t n j) ≡ true
+unfolding transferInRule
+transfer-kept t n (Refuse k) r b = refl
+transfer-kept t n (Hold c) r b = rw (le-leb n 1024 b, found c)
+transfer-kept t n (Write v) r b = refl
+transfer-kept t n (Read c) r b = r
+
+-- a judgement that is carried out keeps the head in rule
+ready-carried : (c : Controller) (t : Received) → Ready c → Made (t .receiver) → t .receiver .received ≡ 0 → Ready (carriedOut c t (judgedIn c t))
+unfolding judgedIn
+ready-carried c t k m z =
+    let r = rule-parts c (k .rule) in
+    let a = transferIn (c .transfer) (t .receiver .hold) in
+    let q = arrivedIn (heldIn (c .transfer)) t in
+    let j = judge (c .settings .mode) (transferIn (c .transfer) (t .receiver .hold)) (arrivedIn (heldIn (c .transfer)) t) in
+    let n : length (held a) ≡ heldIn (c .transfer) = held-length (c .transfer) (t .receiver .hold) (r .transfer) (m .hold) in
+    let b : Bounded (heldIn (c .transfer) + payloadLength (t .receiver .header)) j =
+    subst (λ (x : ℕ). Bounded (x + payloadLength (t .receiver .header)) (judge (c .settings .mode) (transferIn (c .transfer) (t .receiver .hold)) (arrivedIn (heldIn (c .transfer)) t))) n (bounded (c .settings .mode) a q) in
+    record {
+      rule =
+          rule-whole _
+          (record {
+            settings = in-rule-of (settingsAfter (c .settings) j) (kept-judgement (c .settings) j (kept-by (c .settings) (r .settings)) (sound (c .settings .mode) a q));
+            transfer = transfer-kept (c .transfer) (heldIn (c .transfer) + payloadLength (t .receiver .header)) j (r .transfer) b;
+            packet = unfold packetInRule in lt-ltb (t .receiver .received) (7 + payloadLength (t .receiver .header)) (omega arith);
+          });
+      made = m;
+    }
+
+-- what is received of a packet that is not complete is short of its size
+few : (c : Controller) (b : List ℕ) → Rule c → length b < missing (c .receiver) b
+    → c .receiver .received + length b < 7 + payloadLength (sets (c .receiver .header) (c .receiver .received) b)
+unfolding packetInRule missing
+few c b r h = go b h
+  where
+    old : c .receiver .received < 7 + payloadLength (c .receiver .header)
+    old = ltb-true (c .receiver .received) (7 + payloadLength (c .receiver .header)) (r .packet)
+
+    go : (b : List ℕ) → length b < max 1 (7 + payloadLength (sets (c .receiver .header) (c .receiver .received) b) - c .receiver .received)
+        → c .receiver .received + length b < 7 + payloadLength (sets (c .receiver .header) (c .receiver .received) b)
+    go [] h = omega (arith, old)
+    go (x ∷ b) h = omega (arith, old)
+
+-- bytes that complete no packet keep it in rule too
+ready-waiting : (c : Controller) (b : List ℕ) → Ready c → length b < missing (c .receiver) b
+    → Ready (record { settings = c .settings; transfer = c .transfer; receiver = with (c .receiver) (heldIn (c .transfer)) b })
+unfolding with
+ready-waiting c b k h =
+    let r = rule-parts c (k .rule) in
+    record {
+      rule =
+          rule-whole _
+          (record {
+            settings = r .settings;
+            transfer = r .transfer;
+            packet = unfold packetInRule in lt-ltb (c .receiver .received + length b) (7 + payloadLength (sets (c .receiver .header) (c .receiver .received) b)) (few c b r h);
+          });
+      made = made-with (c .receiver) (heldIn (c .transfer)) b (k .made);
+    }
+
+-- In rule stays in rule, whatever bytes come.
+pub stays-in-rule : (c : Controller) (b out : List ℕ) → Ready c → 64 ≤ length out → Ready (receiveCall c b out .controller)
+unfolding receiverWaiting completed
+stays-in-rule c b out k l =
+    by-ends c b out k l
+    (λ h. subst (λ (r : After). Ready (r .controller)) (sym (call-waits c b out k l h)) (ready-waiting c b k h))
+    (λ h.
+    let n = missing (c .receiver) b in
+    let w = with (c .receiver) (heldIn (c .transfer)) (take (missing (c .receiver) b - 1) b) in
+    subst (λ (r : After). Ready (r .controller)) (sym (call-answers c b out k l h))
+    (ready-carried c (completed (c .receiver) (heldIn (c .transfer)) b n) k
+    (made-between w (made-with (c .receiver) (heldIn (c .transfer)) (take (missing (c .receiver) b - 1) b) (k .made))) refl))
+
+-- The receive call over a stream.
+module _ (out : List ℕ) (l : 64 ≤ length out) where
+  none-waits : (c : Controller) (a : List ℕ) → Ready c → serves out c a .gives ≡ none → length a < missing (c .receiver) a
+  none-waits c a k g =
+      by-ends c a out k l (λ h. h)
+      (λ h.
+      let e = sym (ap (λ (r : After). shown r .gives) (call-answers c a out k l h)) ∙ g in
+      let z : _≡_ {A = ℕ} 0 1 = cc in absurd (omega arith))
+
+  some-answers : (c : Controller) (a e : List ℕ) → Ready c → serves out c a .gives ≡ some e → missing (c .receiver) a ≤ length a
+  some-answers c a e k g =
+      by-ends c a out k l
+      (λ h.
+      let e = sym (ap (λ (r : After). shown r .gives) (call-waits c a out k l h)) ∙ g in
+      let z : _≡_ {A = ℕ} 0 1 = cc in absurd (omega arith))
+      (λ h. h)
+
+  -- the controller that has received a
+  abbrev with-part : Controller → List ℕ → Controller
+  with-part c a = record { settings = c .settings; transfer = c .transfer; receiver = with (c .receiver) (heldIn (c .transfer)) a }
+
+  ends-as : Controller → Received → After
+  ends-as c t = cond (t .complete) (answered c t out) (waiting c t out)
+
+  shown-by : (c d : Controller) (n : ℕ) (t : Received) → c .settings ≡ d .settings → c .transfer ≡ d .transfer → (b : Bool)
+      → shown (cond b (answered c (after n t) out) (waiting c (after n t) out)) ≡ shifted n (shown (cond b (answered d t out) (waiting d t out)))
+  unfolding responseIn judgedIn
+  shown-by c d n t e f true = rw (e, f)
+  shown-by c d n t e f false = rw (e, f)
+
+  shown-after : (c d : Controller) (n : ℕ) (t : Received) → c .settings ≡ d .settings → c .transfer ≡ d .transfer
+      → shown (ends-as c (after n t)) ≡ shifted n (shown (ends-as d t))
+  unfolding ends-as
+  shown-after c d n t e f = shown-by c d n t e f (t .complete)
+
+  cut-call : (c : Controller) (a b : List ℕ) → Ready c → length a < missing (c .receiver) a
+      → serves out c (a ++ b) ≡ shifted (length a) (serves out (with-part c a) b)
+  unfolding ends-as
+  cut-call c a b k h =
+      ap shown (not-refused c (a ++ b) out k l)
+      ∙ ap (λ (t : Received). shown (ends-as c t)) (cut (c .receiver) (heldIn (c .transfer)) a b (k .made .header) h)
+      ∙ shown-after c (with-part c a) (length a) (takenBy (with-part c a) b) refl refl
+      ∙ ap (λ (r : After). shifted (length a) (shown r)) (sym (not-refused (with-part c a) b out (ready-waiting c a k h) l))
+
+  behind-call : (c : Controller) (a b : List ℕ) → Ready c → missing (c .receiver) a ≤ length a → serves out c (a ++ b) ≡ serves out c a
+  unfolding ends-as
+  behind-call c a b k h =
+      ap shown (not-refused c (a ++ b) out k l)
+      ∙ ap (λ (t : Received). shown (ends-as c t)) (behind (c .receiver) (heldIn (c .transfer)) a b (k .made .header) h)
+      ∙ sym (ap shown (not-refused c a out k l))
+
+  count-answers : (c : Controller) (a : List ℕ) → Ready c → missing (c .receiver) a ≤ length a → serves out c a .taken ≡ missing (c .receiver) a
+  unfolding completed
+  count-answers c a k h = ap (λ (r : After). shown r .taken) (call-answers c a out k l h)
+
+  pub endpoint-streams : Streaming (serves out) Ready
+  unfolding receiverWaiting
+  endpoint-streams =
+      record {
+        keeps = λ c b k. stays-in-rule c b out k l;
+        empty = λ c k.
+            ap shown (call-waits c [] out k l (omega (arith, missing-least (c .receiver) [])))
+            ∙ ap (λ (r : Receiver). record { taken = 0; gives = none; state = record { settings = c .settings; transfer = c .transfer; receiver = r } })
+            (with-nil (c .receiver) (heldIn (c .transfer)) (k .made .sum));
+        cut = λ c a b k g.
+            let h = none-waits c a k g in
+            cut-call c a b k h ∙ ap (λ (d : Controller). shifted (length a) (serves out d b)) (sym (ap (λ (r : After). r .controller) (call-waits c a out k l h)));
+        behind = λ c a b e k g. behind-call c a b k (some-answers c a e k g);
+        least = λ c a e k g. omega (arith, missing-least (c .receiver) a, count-answers c a k (some-answers c a e k g));
+        most = λ c a e k g. omega (arith, some-answers c a e k g, count-answers c a k (some-answers c a e k g));
+      }
+
+  -- Demand 2, however the byte stream was cut: the responses in order and the controller at the end are those of the joined bytes.
+  pub cut-anywhere : (c : Controller) (bs : List (List ℕ)) → Ready c → served (serves out) c bs ≡ servedOne (serves out) c (joined bs)
+  cut-anywhere c bs k = in-pieces (serves out) Ready endpoint-streams c bs k

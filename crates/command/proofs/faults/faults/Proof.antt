@@ -1,0 +1,35 @@
+-- `faults` meets its contract.
+use Rattle.command.specs.Faults.{faultsOf}
+use borrow.Author.Needs.{needs}
+use Rattle.command.proofs.faults.faults.Statement.{statement}
+use Rattle.command.proofs.faults.faults.Tie as tie
+
+returns : tie.Need-returns
+unfolding faultsOf
+returns c =
+    let d = c .before .before .before in
+    let e = d .before .before .before in
+    rw (
+      c .before .before .wrong-command .ensures,
+      c .before .too-long .ensures,
+      c .wrong-order .ensures,
+      d .held .ensures,
+      d .before .open-for .ensures,
+      e .word .ensures .0,
+    )
+
+pub faults-spec : {M : Type 1} → statement M
+faults-spec =
+    tie.close
+    (tie.spec
+    (λ c. search needs)
+    (λ c. search needs)
+    (λ c. search needs)
+    (λ c. search needs)
+    (λ c κs. search needs)
+    (λ c κs. search needs)
+    (λ c κs. search needs)
+    (λ c κs. search needs)
+    (λ c κs. search needs)
+    (λ c κs. search needs)
+    returns)

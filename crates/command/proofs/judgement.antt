@@ -1,0 +1,3 @@
+-- The laws of judgement.
+pub mod Laws
+pub mod Steps

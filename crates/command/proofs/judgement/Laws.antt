@@ -1,0 +1,110 @@
+-- What is known of a judgement.
+use Prim.Native.Nat.{ℕ, _+_}
+use mathlib.Core.Path.{_≡_, refl, sym, subst}
+use mathlib.Core.Bool.{true, false, _||_}
+use mathlib.Core.List.{List, _++_}
+use native.Mathlib.Omega.{arith}
+use lib.Dec.{eqb}
+use borrow.Author.Tests.{eqb-true}
+use lib.ListN.{length}
+use Rattle.packet.specs.Number.{Bytes}
+use Rattle.packet.specs.Packet.{hostRead, whole, last, writeResponse}
+use Rattle.packet.proofs.Cases.{cond-cases}
+use Rattle.command.specs.Data.{splitAll}
+use Rattle.command.specs.Table.{commandOf, layout, sizeOf}
+use Rattle.command.specs.Rules.{allowed, blocked}
+use Rattle.command.specs.Value.{commandIn, valuesIn, valueFrom}
+use Rattle.command.specs.Transfer.{Transfer, held}
+use Rattle.command.specs.Faults.{Arrived, faults, anyFault}
+use Rattle.command.specs.Judgement.{judgeWrite, judgeRead, judgeData, judge}
+use Rattle.command.specs.Response.{acknowledged, responseType}
+use Rattle.command.specs.declared.table.Command.{Command}
+use Rattle.command.specs.declared.table.Found.{Found}
+use Rattle.command.specs.declared.table.Found.the-variants.{Known, Unknown}
+use Rattle.command.specs.declared.judgement.Judgement.{Judgement}
+use Rattle.command.specs.declared.judgement.Judgement.the-variants.{Refuse, Hold, Write, Read}
+use Rattle.command.proofs.data.Laws.{split-length, fit-split}
+use Rattle.command.proofs.table.Laws.{Fit}
+use Rattle.command.proofs.value.Laws.{command-from, values-from}
+use Rattle.command.proofs.rules.Laws.{Writable}
+
+-- what holds of a write that a judgement carries out, and of every other judgement
+abbrev OfWrite : (Command → List ℕ → Type 0) → Judgement → Type 0
+OfWrite P (Refuse k) = Unit {0}
+OfWrite P (Hold c) = Unit {0}
+OfWrite P (Write v) = P (commandIn v) (valuesIn v)
+OfWrite P (Read c) = Unit {0}
+
+-- the values of a write are those of its data
+from-data : (P : Command → List ℕ → Type 0) (c : Command) (d : List ℕ) → P c (splitAll (layout c) d)
+    → P (commandIn (valueFrom c (splitAll (layout c) d))) (valuesIn (valueFrom c (splitAll (layout c) d)))
+from-data P c d h =
+    subst (λ (x : Command). P x (valuesIn (valueFrom c (splitAll (layout c) d)))) (sym (command-from c (splitAll (layout c) d)))
+    (subst (λ (x : List ℕ). P c x) (sym (values-from c (splitAll (layout c) d) (split-length (layout c) d))) h)
+
+-- Whatever holds of data of the right size, with allowed values, that are not blocked, holds of every write that is carried out.
+module _
+    (P : Command → List ℕ → Type 0)
+    (mode : ℕ)
+    (d : List ℕ)
+    (h :
+    (c : Command) → length d ≡ sizeOf c → allowed c (splitAll (layout c) d) ≡ true → blocked c (splitAll (layout c) d) mode ≡ false → P c (splitAll (layout c) d)) where
+  of-write : (c : Command) → OfWrite P (judgeWrite c mode d)
+  unfolding judgeWrite
+  of-write c =
+      cond-cases (OfWrite P) (eqb (length d) (sizeOf c))
+      (λ l.
+      cond-cases (OfWrite P) (allowed c (splitAll (layout c) d))
+      (λ a.
+      cond-cases (OfWrite P) (blocked c (splitAll (layout c) d) mode)
+      (λ _. tt)
+      (λ b. from-data P c d (h c (eqb-true (length d) (sizeOf c) l) a b)))
+      (λ _. tt))
+      (λ _. tt)
+
+  of-read : (c : Command) (n : ℕ) → OfWrite P (judgeRead c n)
+  unfolding judgeRead
+  of-read c n = cond-cases (OfWrite P) (eqb n 0) (λ _. tt) (λ _. tt)
+
+  of-data : (f : Found) (type flags : ℕ) → OfWrite P (judgeData f mode type flags d)
+  unfolding judgeData
+  of-data Unknown type flags = tt
+  of-data (Known c) type flags =
+      cond-cases (OfWrite P) (eqb flags whole || eqb flags last)
+      (λ _. cond-cases (OfWrite P) (eqb type hostRead) (λ _. of-read c (length d)) (λ _. of-write c))
+      (λ _. tt)
+
+of-judge : (P : Command → List ℕ → Type 0) (mode : ℕ) (t : Transfer) (p : Arrived)
+    → ((c : Command) → length (held t ++ p .body) ≡ sizeOf c → allowed c (splitAll (layout c) (held t ++ p .body)) ≡ true
+    → blocked c (splitAll (layout c) (held t ++ p .body)) mode ≡ false → P c (splitAll (layout c) (held t ++ p .body)))
+    → OfWrite P (judge mode t p)
+unfolding judge
+of-judge P mode t p h =
+    cond-cases (OfWrite P) (anyFault (faults (commandOf (p .cmd1) (p .cmd2)) t p))
+    (λ _. tt)
+    (λ _. of-data P mode (held t ++ p .body) h (commandOf (p .cmd1) (p .cmd2)) (p .type) (p .flags))
+
+-- a write that is carried out may be
+abbrev pub Sound : ℕ → Judgement → Type 0
+Sound mode j = OfWrite (Writable mode) j
+
+pub sound : (mode : ℕ) (t : Transfer) (p : Arrived) → Sound mode (judge mode t p)
+sound mode t p =
+    of-judge (Writable mode) mode t p
+    (λ c l a b. record { full = split-length (layout c) (held t ++ p .body); values = a; free = b })
+
+-- the values that stand in bytes fit their fields
+abbrev pub Fitting : Judgement → Type 0
+Fitting j = OfWrite (λ c v. Fit (layout c) v) j
+
+pub fitting : (mode : ℕ) (t : Transfer) (p : Arrived) → Bytes (held t ++ p .body) → Fitting (judge mode t p)
+unfolding sizeOf
+fitting mode t p b =
+    of-judge (λ c v. Fit (layout c) v) mode t p (λ c l _ _. fit-split (layout c) (held t ++ p .body) b (omega arith))
+
+-- acknowledged means answered by a write response
+pub acknowledged-type : (j : Judgement) → eqb (responseType j) writeResponse ≡ acknowledged j
+acknowledged-type (Refuse k) = refl
+acknowledged-type (Hold c) = refl
+acknowledged-type (Write v) = refl
+acknowledged-type (Read c) = refl

@@ -1,0 +1,2 @@
+-- The laws of output.
+pub mod Laws

@@ -1,0 +1,54 @@
+-- `codes_data` meets its contract: a byte behind the others for each code that holds.
+use Prim.Native.Nat.{ℕ}
+use mathlib.Core.Path.{_≡_, refl}
+use mathlib.Core.Bool.{Bool, true, false}
+use mathlib.Core.List.{List, [], _++_}
+use native.Mathlib.Omega.{arith}
+use Rattle.command.specs.Faults.{listIf, codesOf}
+use Rattle.command.specs.declared.faults.Codes.{Codes}
+use borrow.Author.Needs.{needs}
+use Rattle.command.proofs.response.codes_data.Statement.{statement}
+use Rattle.command.proofs.response.codes_data.Tie as tie
+
+list-append : (b : Bool) (n : ℕ) (l m : List ℕ) → listIf b n l ++ m ≡ listIf b n (l ++ m)
+unfolding listIf
+list-append true n l m = refl
+list-append false n l m = refl
+
+-- the codes, one behind the other
+listed : (k : Codes) {a b c d e f g : List ℕ}
+    → a ≡ listIf (k .command) 0x02 []
+    → b ≡ a ++ listIf (k .value) 0x03 []
+    → c ≡ b ++ listIf (k .length) 0x04 []
+    → d ≡ c ++ listIf (k .mode) 0x07 []
+    → e ≡ d ++ listIf (k .checksum) 0x09 []
+    → f ≡ e ++ listIf (k .size) 0x0A []
+    → g ≡ f ++ listIf (k .order) 0x0B []
+    → g ≡ codesOf k
+unfolding codesOf
+listed k p q r s t u v = rw (v, u, t, s, r, q, p) (simp list-append)
+
+returns : tie.Need-returns
+unfolding listIf
+returns c =
+    let d = c .before .before .before in
+    let e = d .before .before .before in
+    record {
+      bytes =
+          listed (e .before .args .k) (e .with-code .ensures .0) (d .before .before .with-code2 .ensures .0) (d .before .with-code3 .ensures .0) (d .with-code4 .ensures .0)
+          (c .before .before .with-code5 .ensures .0) (c .before .with-code6 .ensures .0) (c .with-code7 .ensures .0);
+      room = omega arith;
+    }
+
+pub codes-data-spec : {M : Type 1} → statement M
+codes-data-spec =
+    tie.close
+    (tie.spec
+    (λ c κs. search needs)
+    (λ c κs. search needs)
+    (λ c κs. search needs)
+    (λ c κs. search needs)
+    (λ c κs. search needs)
+    (λ c κs. search needs)
+    (λ c κs. search needs)
+    returns)

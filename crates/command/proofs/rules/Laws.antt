@@ -1,0 +1,151 @@
+-- Settings that keep the rules, and what a write leaves of them.
+use Prim.Native.Nat.{ℕ}
+use mathlib.Core.Path.{_≡_, refl, ap, sym, subst}
+use mathlib.Core.Bool.{Bool, true, false, cond, not, _&&_, and-false}
+use mathlib.Core.List.{List, [], _∷_}
+use native.Mathlib.Omega.{arith}
+use lib.Dec.{eqb}
+use borrow.Author.Tests.{not-true}
+use lib.ListN.{length, getD}
+use Rattle.packet.proofs.Cases.{cond-cases, and-left, and-right, and-both}
+use Rattle.command.specs.Table.{table, same, layout}
+use Rattle.command.specs.Rules.{oneOf, listed, allowed, blocked, allAllowed, settingsInRule}
+use Rattle.command.specs.Settings.{valuesOf, factory, valuesAfter, store}
+use Rattle.command.specs.declared.settings.Settings.{Settings}
+use Rattle.command.specs.declared.table.Command.{Command}
+use Rattle.command.specs.declared.table.Command.the-variants.{DisplayMode, TestPattern, LedCurrent, StaticColour, DisplaySetting, VideoInput, VideoMode, PatternSequence, SequenceRun}
+use Rattle.command.proofs.table.Laws.{each, same-eq, Fit, fit-length, values-settings}
+
+-- the settings keep the rules
+pub record Kept (s : Settings) : Type 0 where
+  pub values : (c : Command) → allowed c (valuesOf c s) ≡ true
+  pub running : blocked SequenceRun (valuesOf SequenceRun s) (s .mode) ≡ false
+
+-- the values of every command fit their fields, as those of the code's types do
+abbrev pub Fits : Settings → Type 0
+Fits s = (c : Command) → Fit (layout c) (valuesOf c s)
+
+abbrev Every : (Command → Type 0) → List Command → Type 0
+Every P [] = Unit {0}
+Every P (c ∷ cs) = P c × Every P cs
+
+all-allowed : (s : Settings) (cs : List Command) → allAllowed s cs ≡ true → Every (λ c. allowed c (valuesOf c s) ≡ true) cs
+unfolding allAllowed
+all-allowed s [] h = tt
+all-allowed s (c ∷ cs) h =
+    (and-left (allowed c (valuesOf c s)) (allAllowed s cs) h, all-allowed s cs (and-right (allowed c (valuesOf c s)) (allAllowed s cs) h))
+
+each-allowed : (s : Settings) → ((c : Command) → allowed c (valuesOf c s) ≡ true) → (cs : List Command) → allAllowed s cs ≡ true
+unfolding allAllowed
+each-allowed s h [] = refl
+each-allowed s h (c ∷ cs) = and-both (allowed c (valuesOf c s)) (allAllowed s cs) (h c) (each-allowed s h cs)
+
+-- the test of refusal 3 says so
+pub kept-by : (s : Settings) → settingsInRule s ≡ true → Kept s
+unfolding settingsInRule
+kept-by s h =
+    let e = all-allowed s table (and-left (allAllowed s table) (not (blocked SequenceRun (valuesOf SequenceRun s) (s .mode))) h) in
+    record {
+      values =
+          each (λ c. allowed c (valuesOf c s) ≡ true) (
+            e .0,
+            e .1 .0,
+            e .1 .1 .0,
+            e .1 .1 .1 .0,
+            e .1 .1 .1 .1 .0,
+            e .1 .1 .1 .1 .1 .0,
+            e .1 .1 .1 .1 .1 .1 .0,
+            e .1 .1 .1 .1 .1 .1 .1 .0,
+            e .1 .1 .1 .1 .1 .1 .1 .1 .0,
+          );
+      running =
+          not-true (blocked SequenceRun (valuesOf SequenceRun s) (s .mode))
+          (and-right (allAllowed s table) (not (blocked SequenceRun (valuesOf SequenceRun s) (s .mode))) h);
+    }
+
+pub in-rule-of : (s : Settings) → Kept s → settingsInRule s ≡ true
+unfolding settingsInRule
+in-rule-of s k =
+    and-both (allAllowed s table) (not (blocked SequenceRun (valuesOf SequenceRun s) (s .mode))) (each-allowed s (k .values) table) (ap not (k .running))
+
+-- a write that may be carried out in a display mode
+pub record Writable (mode : ℕ) (c : Command) (v : List ℕ) : Type 0 where
+  pub full : length v ≡ length (layout c)
+  pub values : allowed c v ≡ true
+  pub free : blocked c v mode ≡ false
+
+-- What holds of the values written, of a run of 0 and of the values that were, holds of the values afterwards.
+after-cases : (P : Command → List ℕ → Type 0) (c : Command) (v : List ℕ) (s : Settings)
+    → P c v
+    → P SequenceRun (0 ∷ [])
+    → ((e : Command) → P e (valuesOf e s))
+    → (e : Command)
+    → P e (valuesAfter c v s e)
+unfolding valuesAfter
+after-cases P c v s w z k e =
+    cond-cases (P e) (same e c)
+    (λ x. subst (λ (d : Command). P d v) (sym (same-eq e c x)) w)
+    (λ _.
+    cond-cases (P e) (same c DisplayMode && same e SequenceRun && not (eqb (getD v 0 0) 4))
+    (λ x. subst (λ (d : Command). P d (0 ∷ [])) (sym (same-eq e SequenceRun (stops (same c DisplayMode) (same e SequenceRun) (not (eqb (getD v 0 0) 4)) x))) z)
+    (λ _. k e))
+  where
+    stops : (a b d : Bool) → (a && b && d) ≡ true → b ≡ true
+    stops true true d h = refl
+    stops true false d h = h
+    stops false b d h = let y : _≡_ {A = ℕ} 0 1 = cc in absurd (omega arith)
+
+abbrev Long : Command → List ℕ → Type 0
+Long e v = length v ≡ length (layout e)
+
+pub length-values : (s : Settings) (e : Command) → length (valuesOf e s) ≡ length (layout e)
+length-values s = each (λ e. length (valuesOf e s) ≡ length (layout e)) (refl, refl, refl, refl, refl, refl, refl, refl, refl)
+
+pub values-store : (c : Command) (v : List ℕ) (s : Settings) → length v ≡ length (layout c) → (e : Command) → valuesOf e (store c v s) ≡ valuesAfter c v s e
+unfolding store
+values-store c v s h e = values-settings e (valuesAfter c v s) (after-cases Long c v s h refl (length-values s) e)
+
+stopped : (b : Bool) (r : ℕ) → (eqb (getD (cond (not b) (0 ∷ []) (r ∷ [])) 0 0) 1 && not b) ≡ false
+stopped true r = and-false (eqb r 1)
+stopped false r = refl
+
+running-after : (c : Command) (v : List ℕ) (s : Settings) → Kept s → blocked c v (s .mode) ≡ false
+    → blocked SequenceRun (valuesOf SequenceRun (store c v s)) (store c v s .mode) ≡ false
+unfolding store valuesAfter blocked
+running-after DisplayMode v s k f = stopped (eqb (getD v 0 0) 4) (s .run)
+running-after TestPattern v s k f = k .running
+running-after LedCurrent v s k f = k .running
+running-after StaticColour v s k f = k .running
+running-after DisplaySetting v s k f = k .running
+running-after VideoInput v s k f = k .running
+running-after VideoMode v s k f = k .running
+running-after PatternSequence v s k f = k .running
+running-after SequenceRun v s k f = f
+
+-- the settings keep the rules after such a write
+pub kept-store : (c : Command) (v : List ℕ) (s : Settings) → Kept s → Writable (s .mode) c v → Kept (store c v s)
+kept-store c v s k w =
+    record {
+      values = λ e.
+          subst (λ (x : List ℕ). allowed e x ≡ true) (sym (values-store c v s (w .full) e))
+          (after-cases (λ e x. allowed e x ≡ true) c v s (w .values) (unfold allowed in refl) (k .values) e);
+      running = running-after c v s k (w .free);
+    }
+
+pub fits-store : (c : Command) (v : List ℕ) (s : Settings) → Fits s → Fit (layout c) v → Fits (store c v s)
+fits-store c v s k w e =
+    subst (λ (x : List ℕ). Fit (layout e) x) (sym (values-store c v s (fit-length (layout c) v w) e))
+    (after-cases (λ e x. Fit (layout e) x) c v s w (omega arith, tt) k e)
+
+-- the factory values do
+pub kept-factory : Kept factory
+unfolding factory allowed blocked oneOf listed
+kept-factory =
+    record {
+      values = each (λ c. allowed c (valuesOf c factory) ≡ true) (refl, refl, refl, refl, refl, refl, refl, refl, refl);
+      running = refl;
+    }
+
+pub fits-factory : Fits factory
+unfolding factory
+fits-factory = each (λ c. Fit (layout c) (valuesOf c factory)) (omega arith, omega arith, omega arith, omega arith, omega arith, omega arith, omega arith, omega arith, omega arith)

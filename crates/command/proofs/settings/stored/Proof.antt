@@ -1,0 +1,43 @@
+-- `stored` meets its contract: in each arm the command is known.
+use borrow.Author.Tests.{eq-eqb, ne-eqb}
+use Rattle.command.specs.Settings.{store, valuesAfter}
+use borrow.Author.Needs.{needs}
+use Rattle.command.proofs.settings.stored.Statement.{statement}
+use Rattle.command.proofs.settings.stored.Tie as tie
+
+returns : tie.Need-returns
+unfolding store valuesAfter
+returns c =
+    let g = c .before .before .v .given in
+    rw (g .1, ne-eqb (g .0 .0) 4 (c .if1 .taken))
+
+returns-2 : tie.Need-returns-2
+unfolding store valuesAfter
+returns-2 c =
+    let g = c .before .before .v .given in
+    rw (g .1, eq-eqb (g .0 .0) 4 (c .if1 .left))
+
+pub stored-spec : {M : Type 1} → statement M
+unfolding store valuesAfter
+stored-spec =
+    tie.close
+    (tie.spec
+    (λ c. search needs)
+    (λ c. search needs)
+    (λ c. search needs)
+    (λ c. search needs)
+    (λ c. search needs)
+    (λ c. search needs)
+    (λ c. search needs)
+    (λ c. search needs)
+    (λ c. search needs)
+    returns
+    returns-2
+    (λ c. rw (c .before .v2 .given .1))
+    (λ c. rw (c .before .v3 .given .1))
+    (λ c. rw (c .before .v4 .given .1))
+    (λ c. rw (c .before .v5 .given .1))
+    (λ c. rw (c .before .v6 .given .1))
+    (λ c. rw (c .before .v7 .given .1))
+    (λ c. rw (c .before .v8 .given .1))
+    (λ c. rw (c .before .v9 .given .1)))

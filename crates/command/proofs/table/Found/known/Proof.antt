@@ -1,0 +1,12 @@
+-- `Found::known` meets its contract.
+use borrow.Author.Needs.{needs}
+use Rattle.command.proofs.table.Found.known.Statement.{statement}
+use Rattle.command.proofs.table.Found.known.Tie as tie
+
+pub known-spec : {M : Type 1} → statement M
+known-spec =
+    tie.close (tie.spec
+    (λ c. search needs)
+    (λ c. search needs)
+    (λ c. search needs)
+    (λ c. search needs))

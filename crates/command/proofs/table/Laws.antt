@@ -1,0 +1,102 @@
+-- Laws of the table, and of settings as lists of values.
+use Prim.Native.Nat.{ℕ, zero, suc, _^_, _<_, _≤_}
+use mathlib.Core.Path.{_≡_, refl, ap, sym, subst, _∙_}
+use mathlib.Core.Bool.{Bool, true, cond}
+use mathlib.Core.List.{List, [], _∷_}
+use native.Mathlib.Omega.{arith}
+use lib.Dec.{eqb}
+use borrow.Author.Tests.{eqb-true}
+use lib.ListN.{length, getD}
+use Rattle.packet.specs.Packet.{sum}
+use Rattle.packet.proofs.Cases.{bool-cases, and-left, and-right}
+use Rattle.command.specs.Table.{table, cmd1For, cmd2For, hasCode, find, commandOf, same, layout, sizeOf}
+use Rattle.command.specs.Settings.{valuesOf, settingsOf}
+use Rattle.command.specs.declared.table.Command.{Command}
+use Rattle.command.specs.declared.table.Command.the-variants.{DisplayMode, TestPattern, LedCurrent, StaticColour, DisplaySetting, VideoInput, VideoMode, PatternSequence, SequenceRun}
+use Rattle.command.specs.declared.table.Found.the-variants.{Known}
+
+-- what holds of each command of the table holds of all
+pub each : (P : Command → Type 0)
+    → P DisplayMode × P TestPattern × P LedCurrent × P StaticColour × P DisplaySetting × P VideoInput × P VideoMode × P PatternSequence × P SequenceRun
+    → (c : Command)
+    → P c
+each P h DisplayMode = h .0
+each P h TestPattern = h .1
+each P h LedCurrent = h .2
+each P h StaticColour = h .3
+each P h DisplaySetting = h .4
+each P h VideoInput = h .5
+each P h VideoMode = h .6
+each P h PatternSequence = h .7
+each P h SequenceRun = h .8
+
+-- a command is found by its bytes
+pub found : (c : Command) → commandOf (cmd1For c) (cmd2For c) ≡ Known c
+unfolding commandOf find
+found = each (λ c. commandOf (cmd1For c) (cmd2For c) ≡ Known c) (refl, refl, refl, refl, refl, refl, refl, refl, refl)
+
+-- what is found has those bytes
+find-code : (cs : List Command) (a b : ℕ) (c : Command) → find a b cs ≡ Known c → (a ≡ cmd1For c) × (b ≡ cmd2For c)
+unfolding find
+find-code [] a b c h = let z : _≡_ {A = ℕ} 0 1 = cc in absurd (omega arith)
+find-code (d ∷ cs) a b c h =
+    bool-cases (hasCode a b d)
+    (λ e.
+    let k : d ≡ c = same-known d c (sym (ap (λ (t : Bool). cond t (Known d) (find a b cs)) e) ∙ h) in
+    subst (λ (x : Command). (a ≡ cmd1For x) × (b ≡ cmd2For x)) k
+    (eqb-true a (cmd1For d) (and-left (eqb a (cmd1For d)) (eqb b (cmd2For d)) e), eqb-true b (cmd2For d) (and-right (eqb a (cmd1For d)) (eqb b (cmd2For d)) e)))
+    (λ e. find-code cs a b c (sym (ap (λ (t : Bool). cond t (Known d) (find a b cs)) e) ∙ h))
+  where
+    same-known : (x y : Command) → Known x ≡ Known y → x ≡ y
+    same-known x y e = cc
+
+pub known-code : (a b : ℕ) (c : Command) → commandOf a b ≡ Known c → (a ≡ cmd1For c) × (b ≡ cmd2For c)
+unfolding commandOf
+known-code a b c h = find-code table a b c h
+
+pub same-eq : (a b : Command) → same a b ≡ true → a ≡ b
+same-eq a b h =
+    let e : cmd1For a ≡ cmd1For b = eqb-true (cmd1For a) (cmd1For b) (and-left (eqb (cmd1For a) (cmd1For b)) (eqb (cmd2For a) (cmd2For b)) h) in
+    let f : cmd2For a ≡ cmd2For b = eqb-true (cmd2For a) (cmd2For b) (and-right (eqb (cmd1For a) (cmd1For b)) (eqb (cmd2For a) (cmd2For b)) h) in
+    cc (found a, found b)
+
+-- the data of every command are short
+pub size-small : (c : Command) → sizeOf c ≤ 17
+unfolding sizeOf sum
+size-small = each (λ c. sizeOf c ≤ 17) (omega arith)
+
+abbrev pub tab : ℕ → (ℕ → ℕ) → List ℕ
+tab zero f = []
+tab (suc n) f = f 0 ∷ tab n (λ i. f (suc i))
+
+-- a list of n numbers is its n elements
+pub full : (n : ℕ) (l : List ℕ) → length l ≡ n → tab n (λ i. getD l i 0) ≡ l
+full zero [] h = refl
+full zero (x ∷ l) h = absurd (omega arith)
+full (suc n) [] h = absurd (omega arith)
+full (suc n) (x ∷ l) h = ap {B = List ℕ} (λ t. x ∷ t) (full n l (omega arith))
+
+-- each number fits its width
+abbrev pub Fit : List ℕ → List ℕ → Type 0
+Fit [] [] = Unit {0}
+Fit [] (v ∷ vs) = ⊥
+Fit (w ∷ ws) [] = ⊥
+Fit (w ∷ ws) (v ∷ vs) = (v < 256 ^ w) × Fit ws vs
+
+pub fit-length : (ws vs : List ℕ) → Fit ws vs → length vs ≡ length ws
+fit-length [] [] h = refl
+fit-length [] (v ∷ vs) h = absurd h
+fit-length (w ∷ ws) [] h = absurd h
+fit-length (w ∷ ws) (v ∷ vs) h = ap suc (fit-length ws vs (h .1))
+
+-- settings made from lists of values have those values
+pub values-settings : (c : Command) (f : Command → List ℕ) → length (f c) ≡ length (layout c) → valuesOf c (settingsOf f) ≡ f c
+values-settings DisplayMode f h = full 1 (f DisplayMode) h
+values-settings TestPattern f h = full 1 (f TestPattern) h
+values-settings LedCurrent f h = full 3 (f LedCurrent) h
+values-settings StaticColour f h = full 4 (f StaticColour) h
+values-settings DisplaySetting f h = full 3 (f DisplaySetting) h
+values-settings VideoInput f h = full 6 (f VideoInput) h
+values-settings VideoMode f h = full 3 (f VideoMode) h
+values-settings PatternSequence f h = full 8 (f PatternSequence) h
+values-settings SequenceRun f h = full 1 (f SequenceRun) h

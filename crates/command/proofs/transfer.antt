@@ -1,0 +1,2 @@
+-- The laws of transfer.
+pub mod Laws

@@ -1,0 +1,45 @@
+-- Laws of a command with its values.
+use Prim.Native.Nat.{ℕ}
+use mathlib.Core.Path.{_≡_, refl}
+use mathlib.Core.List.{List}
+use lib.ListN.{length}
+use Rattle.command.specs.Table.{layout}
+use Rattle.command.specs.Settings.{valuesOf}
+use Rattle.command.specs.declared.settings.Settings.{Settings}
+use Rattle.command.specs.declared.table.Command.{Command}
+use Rattle.command.specs.declared.table.Command.the-variants.{DisplayMode, TestPattern, LedCurrent, StaticColour, DisplaySetting, VideoInput, VideoMode, PatternSequence, SequenceRun}
+use Rattle.command.proofs.table.Laws.{each, full}
+use Rattle.command.specs.Value.{commandIn, valuesIn, valueFrom, dataIn, dataOf}
+use Rattle.command.specs.declared.value.Value.{Value}
+use Rattle.command.specs.declared.value.Value.the-variants as value
+
+pub command-from : (c : Command) (v : List ℕ) → commandIn (valueFrom c v) ≡ c
+command-from c v = each (λ c. commandIn (valueFrom c v) ≡ c) (refl, refl, refl, refl, refl, refl, refl, refl, refl) c
+
+pub values-from : (c : Command) (v : List ℕ) → length v ≡ length (layout c) → valuesIn (valueFrom c v) ≡ v
+values-from DisplayMode v h = full 1 v h
+values-from TestPattern v h = full 1 v h
+values-from LedCurrent v h = full 3 v h
+values-from StaticColour v h = full 4 v h
+values-from DisplaySetting v h = full 3 v h
+values-from VideoInput v h = full 6 v h
+values-from VideoMode v h = full 3 v h
+values-from PatternSequence v h = full 8 v h
+values-from SequenceRun v h = full 1 v h
+
+pub value-from : (v : Value) → valueFrom (commandIn v) (valuesIn v) ≡ v
+value-from (value.DisplayMode m) = refl
+value-from (value.TestPattern p) = refl
+value-from (value.LedCurrent q) = refl
+value-from (value.StaticColour q) = refl
+value-from (value.DisplaySetting q) = refl
+value-from (value.VideoInput q) = refl
+value-from (value.VideoMode q) = refl
+value-from (value.PatternSequence q) = refl
+value-from (value.SequenceRun r) = refl
+
+-- the value of a setting, as a write carries it
+pub data-from : (c : Command) (s : Settings) → dataIn (valueFrom c (valuesOf c s)) ≡ dataOf c s
+unfolding dataIn dataOf
+data-from c s =
+    each (λ c. dataIn (valueFrom c (valuesOf c s)) ≡ dataOf c s) (refl, refl, refl, refl, refl, refl, refl, refl, refl) c

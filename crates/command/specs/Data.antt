@@ -1,0 +1,16 @@
+-- The fields of a command's data: numbers of several bytes, one after the other.
+use Prim.Native.Nat.{ℕ}
+use mathlib.Core.List.{List, [], _∷_, _++_}
+use lib.ListN.{take, drop}
+use Rattle.packet.specs.Number.{valueOf, bytesOf}
+
+-- the numbers that stand in d, by their widths in bytes
+unfoldable pub splitAll : List ℕ → List ℕ → List ℕ
+splitAll [] d = []
+splitAll (w ∷ ws) d = valueOf (take w d) ∷ splitAll ws (drop w d)
+
+-- the bytes of the numbers, by their widths
+unfoldable pub joinAll : List ℕ → List ℕ → List ℕ
+joinAll [] vs = []
+joinAll (w ∷ ws) [] = []
+joinAll (w ∷ ws) (v ∷ vs) = bytesOf w v ++ joinAll ws vs

@@ -1,0 +1,100 @@
+-- How a complete packet is judged, what a judgement changes, and the response that it draws.
+use Prim.Native.Nat.{ℕ, _+_}
+use mathlib.Core.Bool.{Bool, true, false, cond, not, _&&_, _||_}
+use mathlib.Core.List.{List, [], _∷_}
+use lib.Dec.{eqb, ltb}
+use lib.ListN.{length}
+use Rattle.packet.specs.Packet.{typeOf, cmd1Of, cmd2Of, flagsOf, payloadLength, payload, rightSum, hostWrite, hostRead, whole, beginning, intermediate, last}
+use Rattle.command.specs.Table.{isKnown, canRead}
+use Rattle.command.specs.declared.table.Found.{Found}
+use Rattle.command.specs.declared.faults.Codes.{Codes}
+use Rattle.command.specs.Transfer.{Transfer, isOpen, held, openFor}
+
+-- a complete packet, as far as it is judged
+pub record Arrived : Type 0 where
+  pub type : ℕ
+  pub cmd1 : ℕ
+  pub cmd2 : ℕ
+  pub flags : ℕ
+  pub size : ℕ
+  pub right : Bool
+  pub body : List ℕ
+
+-- the packet of these bytes
+abbrev pub arrived : List ℕ → Arrived
+arrived p =
+    record {
+      type = typeOf p;
+      cmd1 = cmd1Of p;
+      cmd2 = cmd2Of p;
+      flags = flagsOf p;
+      size = payloadLength p;
+      right = rightSum p;
+      body = payload p;
+    }
+
+-- flags 02 or 03
+abbrev pub continues : ℕ → Bool
+continues f = eqb f intermediate || eqb f last
+
+-- First group, every one that holds is reported.
+
+-- 02: type neither 02 nor 04, or command not in the table, or a read of 01 06
+unfoldable pub wrongCommand : Found → ℕ → Bool
+wrongCommand c type = not (eqb type hostWrite || eqb type hostRead) || not (isKnown c) || (eqb type hostRead && not (canRead c))
+
+-- 04: payload length over 1,024; or flags 02 or 03 with a transfer open and held bytes plus this payload over 1,024
+unfoldable pub tooLong : Bool → ℕ → ℕ → ℕ → Bool
+tooLong isOpen held flags size = ltb 1024 size || (continues flags && isOpen && ltb 1024 (held + size))
+
+-- 0B: flags over 03; a type other than 02 with nonzero flags; flags 02 or 03 with no transfer open or one open for another command;
+-- flags 00 or 01 while a transfer is open
+unfoldable pub wrongOrder : Bool → Bool → ℕ → ℕ → Bool
+wrongOrder isOpen openFor type flags =
+    ltb 3 flags || (not (eqb type hostWrite) && not (eqb flags whole)) || (continues flags && not openFor) || ((eqb flags whole || eqb flags beginning) && isOpen)
+
+-- the codes of the first group; 09: checksum wrong
+unfoldable pub faultsOf : Found → Bool → Bool → ℕ → ℕ → ℕ → ℕ → Bool → Codes
+faultsOf c isOpen openFor held type flags size right =
+    record {
+      command = wrongCommand c type;
+      value = false;
+      length = tooLong isOpen held flags size;
+      mode = false;
+      checksum = not right;
+      size = false;
+      order = wrongOrder isOpen openFor type flags;
+    }
+
+-- those of a packet, with a transfer open or none
+unfoldable pub faults : Found → Transfer → Arrived → Codes
+faults c t p = faultsOf c (isOpen t) (openFor c t) (length (held t)) (p .type) (p .flags) (p .size) (p .right)
+
+unfoldable pub anyFault : Codes → Bool
+anyFault k = k .command || k .length || k .checksum || k .order
+
+-- Later codes come alone: 0A, 03, 07.
+
+abbrev pub sizeFault : Codes
+sizeFault = record { command = false; value = false; length = false; mode = false; checksum = false; size = true; order = false }
+
+abbrev pub valueFault : Codes
+valueFault = record { command = false; value = true; length = false; mode = false; checksum = false; size = false; order = false }
+
+abbrev pub modeFault : Codes
+modeFault = record { command = false; value = false; length = false; mode = true; checksum = false; size = false; order = false }
+
+-- a code if its fault holds, and then others
+unfoldable pub listIf : Bool → ℕ → List ℕ → List ℕ
+listIf b n l = cond b (n ∷ l) l
+
+-- one byte for each code, ascending, none twice
+unfoldable pub codesOf : Codes → List ℕ
+codesOf k =
+    listIf (k .command) 0x02
+    (listIf (k .value) 0x03
+    (listIf (k .length) 0x04
+    (listIf (k .mode) 0x07
+    (listIf (k .checksum) 0x09
+    (listIf (k .size) 0x0A
+    (listIf (k .order) 0x0B []))))))

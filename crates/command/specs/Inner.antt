@@ -1,0 +1,61 @@
+-- An open transfer by the controller's numbers: its held data are the first bytes of the hold.
+use Prim.Native.Nat.{ℕ, _+_, _≤_}
+use mathlib.Core.Bool.{Bool, false, cond, not, _&&_}
+use mathlib.Core.List.{List}
+use lib.Dec.{eqb}
+use lib.ListN.{take, length}
+use Rattle.command.specs.Table.{hasCode}
+use Rattle.command.specs.declared.table.Found.{Found}
+use Rattle.command.specs.declared.table.Found.the-variants.{Known, Unknown}
+use Rattle.command.specs.declared.transfer.TransferState.{TransferState}
+use Rattle.command.specs.Controller.{transferInRule, packetInRule}
+use Rattle.command.specs.Rules.{settingsInRule}
+use Rattle.command.specs.declared.controller.Controller.{Controller}
+use Rattle.command.specs.declared.controller.Parts.{Parts}
+use mathlib.Core.Path.{_≡_}
+use Rattle.command.specs.declared.data.Data.{Data}
+use Rattle.packet.specs.Writer.{fits}
+
+abbrev pub isOpenIn : TransferState → Bool
+isOpenIn t = not (eqb (t .active) 0)
+
+-- a transfer is open for this command, by its bytes
+abbrev pub openForIn : Found → TransferState → Bool
+openForIn Unknown t = false
+openForIn (Known c) t = isOpenIn t && hasCode (t .cmd1) (t .cmd2) c
+
+-- the parts beside the hold; and a controller of parts and a hold
+abbrev pub partsOf : Controller → Parts
+partsOf c =
+    record {
+      settings = c .settings;
+      transfer = c .transfer;
+      header = c .receiver .header;
+      sum = c .receiver .sum;
+      received = c .receiver .received;
+    }
+
+abbrev pub controllerOf : Parts → List ℕ → Controller
+controllerOf p hold =
+    record {
+      settings = p .settings;
+      transfer = p .transfer;
+      receiver = record { header = p .header; sum = p .sum; received = p .received; hold = hold };
+    }
+
+-- what refusal 3 lets pass, by the parts
+abbrev pub partsInRule : Parts → Bool
+partsInRule p = settingsInRule (p .settings) && transferInRule (p .transfer) && packetInRule (p .header) (p .received)
+
+-- those that count
+abbrev pub contents : Data → List ℕ
+contents d = take (d .length) (d .bytes)
+
+-- d holds these bytes, and no more than it has room for
+pub record Holds (d : Data) (b : List ℕ) : Type 0 where
+  pub bytes : contents d ≡ b
+  pub room : d .length ≤ 17
+
+-- none where the packet of these data does not go into an output of so many bytes
+abbrev pub lengthIn : ℕ → List ℕ → ℕ
+lengthIn room d = cond (fits room d) (length d + 7) 0

@@ -1,0 +1,44 @@
+-- How a complete packet is judged, what a judgement changes, and the response that it draws.
+use Prim.Native.Nat.{ℕ, _+_}
+use mathlib.Core.Bool.{cond, _||_}
+use mathlib.Core.List.{List, _++_}
+use lib.Dec.{eqb}
+use lib.ListN.{length}
+use Rattle.packet.specs.Packet.{hostRead, whole, last}
+use Rattle.command.specs.Data.{splitAll}
+use Rattle.command.specs.Table.{commandOf, layout, sizeOf}
+use Rattle.command.specs.Rules.{allowed, blocked}
+use Rattle.command.specs.Value.{valueFrom}
+use Rattle.command.specs.declared.table.Command.{Command}
+use Rattle.command.specs.declared.table.Found.{Found}
+use Rattle.command.specs.declared.table.Found.the-variants.{Known, Unknown}
+use Rattle.command.specs.declared.judgement.Judgement.{Judgement}
+use Rattle.command.specs.declared.judgement.Judgement.the-variants.{Refuse, Hold, Write, Read}
+use Rattle.command.specs.Transfer.{Transfer, held}
+use Rattle.command.specs.Faults.{Arrived, faults, anyFault, sizeFault, valueFault, modeFault}
+
+-- a write of these data: 0A if they haven't the command's size, then 03 if a value isn't allowed, then 07 for run 1 outside mode 4
+unfoldable pub judgeWrite : Command → ℕ → List ℕ → Judgement
+judgeWrite c mode d =
+    cond (eqb (length d) (sizeOf c))
+    (cond (allowed c (splitAll (layout c) d))
+    (cond (blocked c (splitAll (layout c) d) mode) (Refuse modeFault) (Write (valueFrom c (splitAll (layout c) d))))
+    (Refuse valueFault))
+    (Refuse sizeFault)
+
+-- a read has no request data
+unfoldable pub judgeRead : Command → ℕ → Judgement
+judgeRead c n = cond (eqb n 0) (Read c) (Refuse sizeFault)
+
+-- with none of the first group, d being the joined data; only for flags 00 or 03 are they complete (an unknown command has drawn 02)
+unfoldable pub judgeData : Found → ℕ → ℕ → ℕ → List ℕ → Judgement
+judgeData Unknown mode type flags d = Refuse sizeFault
+judgeData (Known c) mode type flags d =
+    cond (eqb flags whole || eqb flags last) (cond (eqb type hostRead) (judgeRead c (length d)) (judgeWrite c mode d)) (Hold c)
+
+-- how a complete packet is judged in a display mode, with a transfer open or none
+unfoldable pub judge : ℕ → Transfer → Arrived → Judgement
+judge mode t p =
+    cond (anyFault (faults (commandOf (p .cmd1) (p .cmd2)) t p))
+    (Refuse (faults (commandOf (p .cmd1) (p .cmd2)) t p))
+    (judgeData (commandOf (p .cmd1) (p .cmd2)) mode (p .type) (p .flags) (held t ++ p .body))

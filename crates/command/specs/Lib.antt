@@ -1,0 +1,17 @@
+-- What the contracts of command cite.
+pub mod Table
+pub mod Parts
+pub mod Settings
+pub mod Rules
+pub mod Data
+pub mod Value
+pub mod Transfer
+pub mod Faults
+pub mod Judgement
+pub mod Carry
+pub mod Response
+pub mod Player
+pub mod Controller
+pub mod Endpoint
+pub mod Encoder
+pub mod Inner

@@ -1,0 +1,72 @@
+-- Playing bytes from given settings.
+use Prim.Native.Nat.{ℕ}
+use mathlib.Core.Bool.{Bool, true, false, not, _&&_, cond}
+use mathlib.Core.List.{List, [], _∷_}
+use Rattle.packet.specs.Stream.{packets, rest}
+use Rattle.command.specs.Transfer.{Transfer, Closed, isOpen}
+use Rattle.command.specs.Faults.{arrived}
+use Rattle.command.specs.Judgement.{judge}
+use Rattle.command.specs.Carry.{settingsAfter, transferAfter}
+use Rattle.command.specs.Response.{acknowledged, response}
+use Rattle.command.specs.declared.settings.Settings.{Settings}
+use Rattle.command.specs.declared.judgement.Judgement.{Judgement}
+use Rattle.command.specs.Rules.{settingsInRule}
+
+-- the settings, and one open transfer or none
+pub record State : Type 0 where
+  pub settings : Settings
+  pub transfer : Transfer
+
+-- it begins with none
+abbrev pub from : Settings → State
+from s = record { settings = s; transfer = Closed }
+
+-- a packet is judged on the state
+unfoldable pub judged : State → List ℕ → Judgement
+judged a p = judge (a .settings .mode) (a .transfer) (arrived p)
+
+-- and changes it
+unfoldable pub next : State → List ℕ → State
+next a p =
+    record {
+      settings = settingsAfter (a .settings) (judged a p);
+      transfer = transferAfter (a .transfer) (arrived p) (judged a p);
+    }
+
+-- packets one after the other: how each is judged, what each draws, and the state at the end
+unfoldable pub judgements : State → List (List ℕ) → List Judgement
+judgements a [] = []
+judgements a (p ∷ ps) = judged a p ∷ judgements (next a p) ps
+
+unfoldable pub responses : State → List (List ℕ) → List (List ℕ)
+responses a [] = []
+responses a (p ∷ ps) = response (a .settings) (arrived p) (judged a p) ∷ responses (next a p) ps
+
+unfoldable pub after : State → List (List ℕ) → State
+after a [] = a
+after a (p ∷ ps) = after (next a p) ps
+
+-- playing bytes: they are cut into packets, until too few are left for one
+unfoldable pub play : Settings → List ℕ → State
+play s b = after (from s) (packets b)
+
+unfoldable pub allAcknowledged : List Judgement → Bool
+allAcknowledged [] = true
+allAcknowledged (j ∷ js) = acknowledged j && allAcknowledged js
+
+-- if some bytes are left a packet is half sent
+abbrev pub isNil : List ℕ → Bool
+isNil [] = true
+isNil (x ∷ xs) = false
+
+-- each packet is acknowledged, and no packet or transfer is left half sent
+unfoldable pub clean : Settings → List ℕ → Bool
+clean s b = allAcknowledged (judgements (from s) (packets b)) && not (isOpen (play s b .transfer)) && isNil (rest b)
+
+-- where the play ends
+abbrev pub endSettings : Settings → List ℕ → Settings
+endSettings s b = cond (settingsInRule s) (play s b .settings) s
+
+-- each packet was acknowledged, and nothing was left half sent
+abbrev pub endClean : Settings → List ℕ → Bool
+endClean s b = settingsInRule s && clean s b

@@ -1,0 +1,41 @@
+-- How a complete packet is judged, what a judgement changes, and the response that it draws.
+use Prim.Native.Nat.{ℕ}
+use mathlib.Core.Bool.{Bool, true, false}
+use mathlib.Core.List.{List, []}
+use Rattle.packet.specs.Packet.{packetOf, error, writeResponse, readResponse, whole}
+use Rattle.command.specs.Value.{dataOf}
+use Rattle.command.specs.declared.settings.Settings.{Settings}
+use Rattle.command.specs.declared.judgement.Judgement.{Judgement}
+use Rattle.command.specs.declared.judgement.Judgement.the-variants.{Refuse, Hold, Write, Read}
+use Rattle.command.specs.Faults.{Arrived, codesOf}
+
+-- a packet is acknowledged when it draws a write response
+abbrev pub acknowledged : Judgement → Bool
+acknowledged (Refuse k) = false
+acknowledged (Hold c) = true
+acknowledged (Write v) = true
+acknowledged (Read c) = false
+
+-- The response: its type and its payload. It repeats the CMD1 and CMD2 received, with flags 00.
+
+abbrev pub responseType : Judgement → ℕ
+responseType (Refuse k) = error
+responseType (Hold c) = writeResponse
+responseType (Write v) = writeResponse
+responseType (Read c) = readResponse
+
+abbrev pub responseData : Settings → Judgement → List ℕ
+responseData s (Refuse k) = codesOf k
+responseData s (Hold c) = []
+responseData s (Write v) = []
+responseData s (Read c) = dataOf c s
+
+unfoldable pub response : Settings → Arrived → Judgement → List ℕ
+response s p j = packetOf (responseType j) (p .cmd1) (p .cmd2) whole (responseData s j)
+
+-- the codes that a judgement draws: none where the packet is acknowledged or read
+abbrev pub codesIn : Judgement → List ℕ
+codesIn (Refuse k) = codesOf k
+codesIn (Hold c) = []
+codesIn (Write v) = []
+codesIn (Read c) = []

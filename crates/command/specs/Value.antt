@@ -1,0 +1,63 @@
+-- A command with its values, as the code has it: its command, and its values in layout order.
+use Prim.Native.Nat.{ℕ}
+use mathlib.Core.List.{List, [], _∷_}
+use mathlib.Core.Bool.{cond}
+use lib.Dec.{eqb}
+use lib.ListN.{length, getD}
+use Rattle.command.specs.Data.{splitAll, joinAll}
+use Rattle.command.specs.Parts.{currentValues, currentFrom, colourValues, colourFrom, settingValues, settingFrom, inputValues, inputFrom, videoValues, videoFrom, sequenceValues, sequenceFrom}
+use Rattle.command.specs.Table.{layout, sizeOf}
+use Rattle.command.specs.Settings.{valuesOf}
+use Rattle.command.specs.declared.settings.Settings.{Settings}
+use Rattle.command.specs.declared.table.Command.{Command}
+use Rattle.command.specs.declared.table.Command.the-variants.{DisplayMode, TestPattern, LedCurrent, StaticColour, DisplaySetting, VideoInput, VideoMode, PatternSequence, SequenceRun}
+use Rattle.command.specs.declared.value.Value.{Value}
+use Rattle.command.specs.declared.value.Value.the-variants as value
+use Rattle.command.specs.declared.value.Parsed.{Parsed}
+use Rattle.command.specs.declared.value.Parsed.the-variants.{Values, WrongSize}
+
+abbrev pub commandIn : Value → Command
+commandIn (value.DisplayMode m) = DisplayMode
+commandIn (value.TestPattern p) = TestPattern
+commandIn (value.LedCurrent q) = LedCurrent
+commandIn (value.StaticColour q) = StaticColour
+commandIn (value.DisplaySetting q) = DisplaySetting
+commandIn (value.VideoInput q) = VideoInput
+commandIn (value.VideoMode q) = VideoMode
+commandIn (value.PatternSequence q) = PatternSequence
+commandIn (value.SequenceRun r) = SequenceRun
+
+abbrev pub valuesIn : Value → List ℕ
+valuesIn (value.DisplayMode m) = m ∷ []
+valuesIn (value.TestPattern p) = p ∷ []
+valuesIn (value.LedCurrent q) = currentValues q
+valuesIn (value.StaticColour q) = colourValues q
+valuesIn (value.DisplaySetting q) = settingValues q
+valuesIn (value.VideoInput q) = inputValues q
+valuesIn (value.VideoMode q) = videoValues q
+valuesIn (value.PatternSequence q) = sequenceValues q
+valuesIn (value.SequenceRun r) = r ∷ []
+
+-- the command with these values
+abbrev pub valueFrom : Command → List ℕ → Value
+valueFrom DisplayMode v = value.DisplayMode (getD v 0 0)
+valueFrom TestPattern v = value.TestPattern (getD v 0 0)
+valueFrom LedCurrent v = value.LedCurrent (currentFrom v)
+valueFrom StaticColour v = value.StaticColour (colourFrom v)
+valueFrom DisplaySetting v = value.DisplaySetting (settingFrom v)
+valueFrom VideoInput v = value.VideoInput (inputFrom v)
+valueFrom VideoMode v = value.VideoMode (videoFrom v)
+valueFrom PatternSequence v = value.PatternSequence (sequenceFrom v)
+valueFrom SequenceRun v = value.SequenceRun (getD v 0 0)
+
+-- the data of a write
+unfoldable pub dataIn : Value → List ℕ
+dataIn v = joinAll (layout (commandIn v)) (valuesIn v)
+
+-- the command's data, as a read answers it and a write carries it
+unfoldable pub dataOf : Command → Settings → List ℕ
+dataOf c s = joinAll (layout c) (valuesOf c s)
+
+-- the values that stand in data of the right size
+unfoldable pub parsed : Command → List ℕ → Parsed
+parsed c d = cond (eqb (length d) (sizeOf c)) (Values (valueFrom c (splitAll (layout c) d))) WrongSize

@@ -1,0 +1,76 @@
+// The response that a judgement draws.
+use crate::data::Data;
+use crate::faults::Codes;
+use crate::judgement::Judgement;
+use crate::output::emit;
+use crate::settings::Settings;
+use crate::value::data_of;
+ghost use mathlib.Core.Bool.{cond};
+ghost use mathlib.Core.List.{[], _∷_, _++_};
+ghost use mathlib.Core.Path.{_≡_};
+ghost use Prim.Native.Nat.{_+_, _≤_};
+ghost use lib.ListN.{length};
+ghost use Rattle.packet.specs.Packet.{whole};
+ghost use Rattle.packet.specs.Writer.{outputAfter};
+ghost use Rattle.command.specs.Inner.{lengthIn, Holds, contents};
+ghost use Rattle.command.specs.Faults.{codesOf};
+ghost use Rattle.command.specs.Response.{responseType, responseData};
+
+// The data with one code more, where its fault holds.
+fn with_code(d: Data, holds: bool, code: u8) -> Data
+    requires { ⌜ d .length + 1 ≤ 17 ⌝ }
+    ensures { λ r. ⌜ (contents r ≡ contents d ++ cond holds (code ∷ []) []) × (r .length ≤ d .length + 1) ⌝ }
+{
+    let at = d.length;
+    let mut more = d;
+    if holds {
+        more.bytes[at] = code;
+        more.length = at + 1;
+    }
+    more
+}
+
+// One byte for each code, ascending.
+fn codes_data(k: Codes) -> Data
+    ensures { λ r. ⌜ Holds r (codesOf k) ⌝ }
+{
+    let mut d = Data::EMPTY;
+    d = with_code(d, k.command, 0x02);
+    d = with_code(d, k.value, 0x03);
+    d = with_code(d, k.length, 0x04);
+    d = with_code(d, k.mode, 0x07);
+    d = with_code(d, k.checksum, 0x09);
+    d = with_code(d, k.size, 0x0A);
+    with_code(d, k.order, 0x0B)
+}
+
+fn response_type(j: Judgement) -> u8
+    ensures { λ r. ⌜ r ≡ responseType j ⌝ }
+{
+    match j {
+        Judgement::Refuse(_) => packet::ERROR,
+        Judgement::Hold(_) => packet::WRITE_RESPONSE,
+        Judgement::Write(_) => packet::WRITE_RESPONSE,
+        Judgement::Read(_) => packet::READ_RESPONSE,
+    }
+}
+
+fn response_data(s: Settings, j: Judgement) -> Data
+    ensures { λ r. ⌜ Holds r (responseData s j) ⌝ }
+{
+    match j {
+        Judgement::Refuse(k) => codes_data(k),
+        Judgement::Hold(_) => Data::EMPTY,
+        Judgement::Write(_) => Data::EMPTY,
+        Judgement::Read(c) => data_of(crate::settings::value_of(s, c)),
+    }
+}
+
+// The response that a judgement draws: it repeats CMD1 and CMD2.
+pub(crate) fn respond(out: &mut [u8], s: Settings, cmd1: u8, cmd2: u8, j: Judgement) -> usize
+    ensures { λ r. ⌜ (r ≡ lengthIn (length (now (out .entry))) (responseData s j)) × (now (out .exit) ≡ outputAfter (responseType j) cmd1 cmd2 whole (responseData s j) (now (out .entry))) ⌝ }
+{
+    let kind = response_type(j);
+    let d = response_data(s, j);
+    emit(out, kind, cmd1, cmd2, d)
+}

@@ -1,0 +1,149 @@
+// The allowed values, a function for each line of the table.
+use crate::settings::DisplaySetting;
+use crate::settings::LedCurrent;
+use crate::settings::PatternSequence;
+use crate::settings::Settings;
+use crate::settings::StaticColour;
+use crate::settings::VideoInput;
+use crate::settings::VideoMode;
+use crate::value::Value;
+ghost use mathlib.Core.Path.{_≡_};
+ghost use mathlib.Core.List.{[], _∷_};
+ghost use Rattle.command.specs.Parts.{currentValues, colourValues, settingValues, inputValues, videoValues, sequenceValues};
+ghost use Rattle.command.specs.Rules.{allowed as allowedIn, blocked as blockedIn, settingsInRule};
+ghost use Rattle.command.specs.declared.table.Command.the-variants as command;
+ghost use Rattle.command.specs.Value.{commandIn, valuesIn};
+
+pub(crate) fn display_mode(m: u8) -> bool
+    ensures { λ r. ⌜ r ≡ allowedIn command.DisplayMode (m ∷ []) ⌝ }
+{
+    (m == 0) | ((m == 1) | ((m == 2) | ((m == 4) | false)))
+}
+
+pub(crate) fn test_pattern(p: u8) -> bool
+    ensures { λ r. ⌜ r ≡ allowedIn command.TestPattern (p ∷ []) ⌝ }
+{
+    p <= 13
+}
+
+pub(crate) fn led_current(q: LedCurrent) -> bool
+    ensures { λ r. ⌜ r ≡ allowedIn command.LedCurrent (currentValues q) ⌝ }
+{
+    (q.red.0 <= 1024) & (q.green.0 <= 1024) & (q.blue.0 <= 1024)
+}
+
+pub(crate) fn static_colour(q: StaticColour) -> bool
+    ensures { λ r. ⌜ r ≡ allowedIn command.StaticColour (colourValues q) ⌝ }
+{
+    q.last == 0
+}
+
+pub(crate) fn display_setting(q: DisplaySetting) -> bool
+    ensures { λ r. ⌜ r ≡ allowedIn command.DisplaySetting (settingValues q) ⌝ }
+{
+    (q.long <= 1) & (q.short <= 1) & (q.rotate <= 1)
+}
+
+// X and Y are a listed pair; the pairs stand in the order of the table, from its end.
+pub(crate) fn video_input(q: VideoInput) -> bool
+    ensures { λ r. ⌜ r ≡ allowedIn command.VideoInput (inputValues q) ⌝ }
+{
+    let x = q.x;
+    let y = q.y;
+    let mut listed = false;
+    listed = ((x == 608) & (y == 684)) | listed;
+    listed = ((x == 640) & (y == 360)) | listed;
+    listed = ((x == 360) & (y == 640)) | listed;
+    listed = ((x == 720) & (y == 288)) | listed;
+    listed = ((x == 720) & (y == 240)) | listed;
+    listed = ((x == 864) & (y == 480)) | listed;
+    listed = ((x == 854) & (y == 480)) | listed;
+    listed = ((x == 480) & (y == 854)) | listed;
+    listed = ((x == 853) & (y == 480)) | listed;
+    listed = ((x == 480) & (y == 853)) | listed;
+    listed = ((x == 852) & (y == 480)) | listed;
+    listed = ((x == 480) & (y == 852)) | listed;
+    listed = ((x == 800) & (y == 480)) | listed;
+    listed = ((x == 480) & (y == 800)) | listed;
+    listed = ((x == 752) & (y == 480)) | listed;
+    listed = ((x == 480) & (y == 752)) | listed;
+    listed = ((x == 720) & (y == 480)) | listed;
+    listed = ((x == 480) & (y == 720)) | listed;
+    listed = ((x == 640) & (y == 480)) | listed;
+    listed = ((x == 480) & (y == 640)) | listed;
+    listed = ((x == 640) & (y == 430)) | listed;
+    listed = ((x == 430) & (y == 640)) | listed;
+    listed = ((x == 427) & (y == 240)) | listed;
+    listed = ((x == 240) & (y == 427)) | listed;
+    listed = ((x == 320) & (y == 240)) | listed;
+    listed = ((x == 240) & (y == 320)) | listed;
+    listed
+}
+
+pub(crate) fn video_mode(q: VideoMode) -> bool
+    ensures { λ r. ⌜ r ≡ allowedIn command.VideoMode (videoValues q) ⌝ }
+{
+    let f = q.rate;
+    ((f == 15) | ((f == 30) | ((f == 40) | ((f == 50) | ((f == 60) | false)))))
+        & ((1 <= q.depth) & (q.depth <= 8))
+        & ((1 <= q.led) & (q.led <= 4))
+}
+
+pub(crate) fn pattern_sequence(q: PatternSequence) -> bool
+    ensures { λ r. ⌜ r ≡ allowedIn command.PatternSequence (sequenceValues q) ⌝ }
+{
+    ((1 <= q.depth) & (q.depth <= 8))
+        & ((1 <= q.count) & (q.count <= 96))
+        & ((q.inversion <= 2) & ((q.inversion == 0) | (q.depth == 1)))
+        & ((q.trigger <= 6) & ((q.trigger != 6) | (q.depth == 1)))
+        & (q.led <= 2)
+}
+
+pub(crate) fn sequence_run(r: u8) -> bool
+    ensures { λ a. ⌜ a ≡ allowedIn command.SequenceRun (r ∷ []) ⌝ }
+{
+    r <= 1
+}
+
+// The values of a write are allowed.
+pub(crate) fn allowed(v: Value) -> bool
+    ensures { λ r. ⌜ r ≡ allowedIn (commandIn v) (valuesIn v) ⌝ }
+{
+    match v {
+        Value::DisplayMode(m) => display_mode(m),
+        Value::TestPattern(p) => test_pattern(p),
+        Value::LedCurrent(q) => led_current(q),
+        Value::StaticColour(q) => static_colour(q),
+        Value::DisplaySetting(q) => display_setting(q),
+        Value::VideoInput(q) => video_input(q),
+        Value::VideoMode(q) => video_mode(q),
+        Value::PatternSequence(q) => pattern_sequence(q),
+        Value::SequenceRun(r) => sequence_run(r),
+    }
+}
+
+// Run 1 outside display mode 4.
+pub(crate) fn blocked(v: Value, mode: u8) -> bool
+    ensures { λ r. ⌜ r ≡ blockedIn (commandIn v) (valuesIn v) mode ⌝ }
+{
+    match v {
+        Value::SequenceRun(r) => (r == 1) & !(mode == 4),
+        _ => false,
+    }
+}
+
+// Every setting is allowed, and run is not 1 outside mode 4.
+pub(crate) fn settings_in_rule(s: Settings) -> bool
+    ensures { λ r. ⌜ r ≡ settingsInRule s ⌝ }
+{
+    let a = display_mode(s.mode);
+    let b = test_pattern(s.pattern);
+    let c = led_current(s.current);
+    let d = static_colour(s.colour);
+    let e = display_setting(s.setting);
+    let f = video_input(s.input);
+    let g = video_mode(s.video);
+    let h = pattern_sequence(s.sequence);
+    let i = sequence_run(s.run);
+    (a & (b & (c & (d & (e & (f & (g & (h & (i & true))))))))) & !((s.run == 1) & !(s.mode == 4))
+}

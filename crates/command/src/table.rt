@@ -1,0 +1,165 @@
+// The nine commands: their bytes CMD1 and CMD2, and the size of their data.
+ghost use mathlib.Core.Path.{_≡_};
+ghost use Rattle.command.specs.Table.{isKnown, canRead, cmd1For, cmd2For, commandAt, commandOf, sizeOf};
+
+pub enum Command {
+    DisplayMode,
+    TestPattern,
+    LedCurrent,
+    StaticColour,
+    DisplaySetting,
+    VideoInput,
+    VideoMode,
+    PatternSequence,
+    SequenceRun,
+}
+
+// The command of two bytes, if it is in the table.
+pub enum Found {
+    Known(Command),
+    Unknown,
+}
+
+// A command's bytes.
+pub(crate) struct Code {
+    pub cmd1: u8,
+    pub cmd2: u8,
+}
+
+impl Found {
+    pub fn known(self) -> bool
+        ensures { λ r. ⌜ r ≡ isKnown self ⌝ }
+    {
+        match self {
+            Found::Known(_) => true,
+            Found::Unknown => false,
+        }
+    }
+
+    // All but 01 06 can be read.
+    pub fn readable(self) -> bool
+        ensures { λ r. ⌜ r ≡ canRead self ⌝ }
+    {
+        let Found::Known(c) = self else {
+            return false;
+        };
+        match c {
+            Command::StaticColour => false,
+            _ => true,
+        }
+    }
+}
+
+impl Command {
+    // The command of these bytes.
+    pub fn find(cmd1: u8, cmd2: u8) -> Found
+        ensures { λ r. ⌜ r ≡ commandOf cmd1 cmd2 ⌝ }
+    {
+        if (cmd1 == 0x01) & (cmd2 == 0x01) {
+            return Found::Known(Command::DisplayMode);
+        }
+        if (cmd1 == 0x01) & (cmd2 == 0x03) {
+            return Found::Known(Command::TestPattern);
+        }
+        if (cmd1 == 0x01) & (cmd2 == 0x04) {
+            return Found::Known(Command::LedCurrent);
+        }
+        if (cmd1 == 0x01) & (cmd2 == 0x06) {
+            return Found::Known(Command::StaticColour);
+        }
+        if (cmd1 == 0x01) & (cmd2 == 0x07) {
+            return Found::Known(Command::DisplaySetting);
+        }
+        if (cmd1 == 0x02) & (cmd2 == 0x00) {
+            return Found::Known(Command::VideoInput);
+        }
+        if (cmd1 == 0x02) & (cmd2 == 0x01) {
+            return Found::Known(Command::VideoMode);
+        }
+        if (cmd1 == 0x04) & (cmd2 == 0x00) {
+            return Found::Known(Command::PatternSequence);
+        }
+        if (cmd1 == 0x04) & (cmd2 == 0x02) {
+            return Found::Known(Command::SequenceRun);
+        }
+        Found::Unknown
+    }
+
+    // CMD1 and CMD2.
+    pub fn code(self) -> Code
+        ensures { λ r. ⌜ (r .cmd1 ≡ cmd1For self) × (r .cmd2 ≡ cmd2For self) ⌝ }
+    {
+        match self {
+            Command::DisplayMode => Code {
+                cmd1: 0x01,
+                cmd2: 0x01,
+            },
+            Command::TestPattern => Code {
+                cmd1: 0x01,
+                cmd2: 0x03,
+            },
+            Command::LedCurrent => Code {
+                cmd1: 0x01,
+                cmd2: 0x04,
+            },
+            Command::StaticColour => Code {
+                cmd1: 0x01,
+                cmd2: 0x06,
+            },
+            Command::DisplaySetting => Code {
+                cmd1: 0x01,
+                cmd2: 0x07,
+            },
+            Command::VideoInput => Code {
+                cmd1: 0x02,
+                cmd2: 0x00,
+            },
+            Command::VideoMode => Code {
+                cmd1: 0x02,
+                cmd2: 0x01,
+            },
+            Command::PatternSequence => Code {
+                cmd1: 0x04,
+                cmd2: 0x00,
+            },
+            Command::SequenceRun => Code {
+                cmd1: 0x04,
+                cmd2: 0x02,
+            },
+        }
+    }
+
+    // How many bytes its data has.
+    pub fn size(self) -> usize
+        ensures { λ r. ⌜ r ≡ sizeOf self ⌝ }
+    {
+        match self {
+            Command::DisplayMode => 1,
+            Command::TestPattern => 1,
+            Command::LedCurrent => 6,
+            Command::StaticColour => 4,
+            Command::DisplaySetting => 3,
+            Command::VideoInput => 12,
+            Command::VideoMode => 3,
+            Command::PatternSequence => 17,
+            Command::SequenceRun => 1,
+        }
+    }
+
+    // The command in line k of the table; past its end, the last.
+    pub fn at(k: usize) -> Command
+        ensures { λ r. ⌜ r ≡ commandAt k ⌝ }
+    {
+        match k {
+            0 => Command::DisplayMode,
+            1 => Command::TestPattern,
+            2 => Command::LedCurrent,
+            3 => Command::StaticColour,
+            4 => Command::DisplaySetting,
+            5 => Command::VideoInput,
+            6 => Command::VideoMode,
+            7 => Command::PatternSequence,
+            _ => Command::SequenceRun,
+        }
+    }
+}

@@ -1,0 +1,38 @@
+// The open transfer, as the controller has it: numbers alone, which mean something whatever they are.
+use crate::table::Command;
+ghost use mathlib.Core.Path.{_≡_};
+ghost use Rattle.command.specs.Controller.{heldIn, transferInRule};
+
+// An open transfer: its command's bytes, and how many bytes of it are held. None is open where
+// `active` is 0.
+#[repr(C)]
+pub struct TransferState {
+    pub active: u8,
+    pub cmd1: u8,
+    pub cmd2: u8,
+    pub held: usize,
+}
+
+impl TransferState {
+    pub const NONE: TransferState = TransferState {
+        active: 0,
+        cmd1: 0,
+        cmd2: 0,
+        held: 0,
+    };
+
+    // How many bytes are held.
+    pub fn held(self) -> usize
+        ensures { λ r. ⌜ r ≡ heldIn self ⌝ }
+    {
+        if self.active == 0 { 0 } else { self.held }
+    }
+
+    // At most 1,024 bytes are held, and an open transfer is for a command of the table.
+    pub fn in_rule(self) -> bool
+        ensures { λ r. ⌜ r ≡ transferInRule self ⌝ }
+    {
+        let known = Command::find(self.cmd1, self.cmd2).known();
+        (self.held <= 1024) & ((self.active == 0) | known)
+    }
+}

@@ -1,2 +1,0 @@
--- The laws of a controller in rule, for the layers above.
-pub mod Rule

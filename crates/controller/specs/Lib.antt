@@ -1,2 +1,0 @@
--- What the contracts on a controller cite.
-pub mod Controller

@@ -1,0 +1,90 @@
+-- Packets one after the other: what they keep, and a read after park and unpark.
+use Prim.Native.Nat.{ℕ}
+use mathlib.Core.Path.{_≡_, refl, ap, _∙_}
+use mathlib.Core.Bool.{true}
+use mathlib.Core.List.{List, [], _∷_}
+use lib.ListN.{getD}
+use Rattle.dlpc200.specs.Packet.{cmd1Of, readResp, packetOf}
+use Rattle.dlpc200.specs.States.{parkAfter, inRange}
+use Rattle.dlpc200.specs.Status.{faultBits, faultsHeld, data0, data1}
+use Rattle.dlpc200.specs.Judgement.{arrived, faultsOf, statesAfter}
+use Rattle.dlpc200.specs.Response.{responseType, response}
+use Rattle.dlpc200.specs.declared.table.Command.the-variants.{ParkDmd, UnparkDmd, GetDmdSoftwareParkState}
+use Rattle.dlpc200.specs.declared.status.Faults.{Faults}
+use Rattle.dlpc200.specs.declared.judgement.Judgement.{Judgement}
+use Rattle.dlpc200.specs.declared.judgement.Judgement.the-variants.{Failed, Done}
+use Rattle.dlpc200.specs.declared.states.States.{States}
+use Rattle.dlpc200.proofs.judgement.Laws as judgements
+use Rattle.dlpc200.specs.Playing.{judged, answerTo, next, after}
+
+-- A failed packet leaves every state, and packets that all fail do.
+
+pub failed-leaves : (s : States) (p : List ℕ) (f : Faults) → judged p ≡ Failed f → next s p ≡ s
+unfolding next
+failed-leaves s p f h = judgements.failed-leaves s (judged p) f h
+
+abbrev pub AllFail : List (List ℕ) → Type 0
+AllFail [] = Unit {0}
+AllFail (p ∷ ps) = ((f : Faults) × (judged p ≡ Failed f)) × AllFail ps
+
+pub all-failed-leave : (s : States) (ps : List (List ℕ)) → AllFail ps → after s ps ≡ s
+unfolding after
+all-failed-leave s [] h = refl
+all-failed-leave s (p ∷ ps) h = ap (λ (a : States). after a ps) (failed-leaves s p (h .0 .0) (h .0 .1)) ∙ all-failed-leave s ps (h .1)
+
+-- In range stays in range, whatever packets come.
+pub in-range-stays : (s : States) (ps : List (List ℕ)) → inRange s ≡ true → inRange (after s ps) ≡ true
+unfolding after next
+in-range-stays s [] h = h
+in-range-stays s (p ∷ ps) h = in-range-stays (next s p) ps (judgements.in-range-kept s (judged p) h)
+
+-- The error bits of each response beside bit 6 are as many as the faults that hold of its packet.
+pub faults-counted : (s : States) (p : List ℕ) → faultBits (getD (answerTo s p) 6 0) (getD (answerTo s p) 7 0) ≡ faultsHeld (faultsOf (arrived p))
+unfolding answerTo judged
+faults-counted s p = judgements.faults-told s (arrived p)
+
+-- The response to a failed packet: the two status bytes only.
+pub failed-answer : (s : States) (p : List ℕ) (f : Faults) → judged p ≡ Failed f → answerTo s p ≡ packetOf (responseType (cmd1Of p)) (data0 f ∷ data1 f ∷ [])
+unfolding answerTo judged
+failed-answer s p f h = judgements.failed-answer s (arrived p) f h
+
+-- A read of 0015 answers the park state.
+pub read-park : (s : States) (q : List ℕ) → judged q ≡ Done GetDmdSoftwareParkState → answerTo s q ≡ packetOf readResp (0x00 ∷ 0x00 ∷ s .park ∷ [])
+unfolding answerTo response
+read-park s q h =
+    let c : cmd1Of q ≡ 0x04 = unfold judged in judgements.done (arrived q) GetDmdSoftwareParkState (unfold judged in h) .cmd1 in
+    rw (h, c)
+
+-- a packet that is neither a park nor an unpark that was carried out
+abbrev pub Neither : Judgement → Type 0
+Neither (Failed f) = Unit {0}
+Neither (Done c) = (v : ℕ) → parkAfter c v ≡ v
+
+abbrev pub AllNeither : List (List ℕ) → Type 0
+AllNeither [] = Unit {0}
+AllNeither (p ∷ ps) = Neither (judged p) × AllNeither ps
+
+park-kept : (s : States) (j : Judgement) → Neither j → statesAfter s j .park ≡ s .park
+park-kept s (Failed f) h = refl
+park-kept s (Done c) h = h (s .park)
+
+parks-kept : (s : States) (ps : List (List ℕ)) → AllNeither ps → after s ps .park ≡ s .park
+unfolding after next
+parks-kept s [] h = refl
+parks-kept s (p ∷ ps) h = parks-kept (next s p) ps (h .1) ∙ park-kept s (judged p) (h .0)
+
+-- After a park, whatever comes between that is no park or unpark, a read answers 1;
+pub read-after-park : (s : States) (p q : List ℕ) (ps : List (List ℕ)) → judged p ≡ Done ParkDmd → AllNeither ps → judged q ≡ Done GetDmdSoftwareParkState
+    → answerTo (after (next s p) ps) q ≡ packetOf readResp (0x00 ∷ 0x00 ∷ 0x01 ∷ [])
+unfolding next
+read-after-park s p q ps h k r =
+    read-park (after (next s p) ps) q r
+    ∙ ap (λ (v : ℕ). packetOf readResp (0x00 ∷ 0x00 ∷ v ∷ [])) (parks-kept (next s p) ps k ∙ ap (λ (j : Judgement). statesAfter s j .park) h)
+
+-- and after an unpark 0.
+pub read-after-unpark : (s : States) (p q : List ℕ) (ps : List (List ℕ)) → judged p ≡ Done UnparkDmd → AllNeither ps → judged q ≡ Done GetDmdSoftwareParkState
+    → answerTo (after (next s p) ps) q ≡ packetOf readResp (0x00 ∷ 0x00 ∷ 0x00 ∷ [])
+unfolding next
+read-after-unpark s p q ps h k r =
+    read-park (after (next s p) ps) q r
+    ∙ ap (λ (v : ℕ). packetOf readResp (0x00 ∷ 0x00 ∷ v ∷ [])) (parks-kept (next s p) ps k ∙ ap (λ (j : Judgement). statesAfter s j .park) h)

@@ -1,0 +1,178 @@
+-- The receive call on a device in rule: it stays in rule, and cutting a stream changes nothing.
+use Prim.Native.Nat.{ℕ, _+_, _-_, _<_, _≤_}
+use mathlib.Core.Path.{_≡_, refl, ap, sym, subst, _∙_}
+use mathlib.Core.Bool.{Bool, true, false, cond}
+use mathlib.Core.List.{List, [], _∷_, _++_}
+use mathlib.Core.Option.{Option, none, some}
+use native.Mathlib.Omega.{arith}
+use lib.Dec.{ltb}
+use borrow.Author.Tests.{lt-ltb, le-ltb, ltb-true, ltb-false}
+use lib.ListN.{length, take}
+use lib.Seq.{sets}
+use Rattle.packet.specs.Packet.{payloadLength}
+use Rattle.packet.specs.Receiver.{with as packetWith, missing, completed}
+use Rattle.packet.specs.Calls.{Call, servedOne, served, joined}
+use Rattle.packet.proofs.Cases.{bool-cases, and-left, and-right, and-both}
+use Rattle.packet.proofs.ReceiverLaws.{missing-least}
+use Rattle.packet.proofs.Calls.{Streaming, shifted, in-pieces}
+use Rattle.dlpc200.specs.Receiver.{framedBy, with, taking, receiving}
+use Rattle.dlpc200.specs.declared.receiver.Received.{Received}
+use Rattle.dlpc200.proofs.receiver.Laws.{Made, made-with, made-completed, received-none, after, cut, behind, waits, completes, no-bytes}
+use Rattle.dlpc200.specs.States.{inRange}
+use Rattle.dlpc200.specs.declared.states.States.{States}
+use Rattle.dlpc200.proofs.judgement.Laws.{in-range-kept}
+use Rattle.dlpc200.specs.Endpoint.{Outcome, Refuses, Waits, Answers, judgedIn, responseIn, After, waiting, answered, ended, receiveCall}
+use Rattle.dlpc200.specs.Device.{packetInRule, inRule}
+use Rattle.dlpc200.specs.declared.device.Device.{Device}
+
+-- what a call shows of its answer: the bytes taken, and the response at the output's start
+abbrev pub takenOf : Outcome → ℕ
+takenOf (Refuses n) = 0
+takenOf (Waits n) = n
+takenOf (Answers n m) = n
+
+abbrev pub givenBy : Outcome → List ℕ → Option (List ℕ)
+givenBy (Refuses n) out = none
+givenBy (Waits n) out = none
+givenBy (Answers n m) out = some (take m out)
+
+abbrev pub shown : After → Call Device (List ℕ)
+shown r = record { taken = takenOf (r .answer); gives = givenBy (r .answer) (r .output); state = r .device }
+
+-- the receive call with this output lent
+abbrev pub serves : List ℕ → Device → List ℕ → Call Device (List ℕ)
+serves out d b = shown (receiveCall d b out)
+
+-- a device in rule, as the code has it
+pub record Ready (d : Device) : Type 0 where
+  pub rule : inRule d ≡ true
+  pub made : Made (d .receiver)
+
+range-of : (d : Device) → inRule d ≡ true → inRange (d .states) ≡ true
+unfolding inRule
+range-of d h = and-left (inRange (d .states)) (packetInRule (d .receiver .header) (d .receiver .received)) h
+
+unfinished : (d : Device) → inRule d ≡ true → d .receiver .received < 7 + payloadLength (d .receiver .header)
+unfolding inRule packetInRule
+unfinished d h =
+    ltb-true (d .receiver .received) (7 + payloadLength (d .receiver .header))
+    (and-right (inRange (d .states)) (ltb (d .receiver .received) (7 + payloadLength (d .receiver .header))) h)
+
+pub rule-by : (d : Device) → inRange (d .states) ≡ true → d .receiver .received < 7 + payloadLength (d .receiver .header) → inRule d ≡ true
+unfolding inRule packetInRule
+rule-by d h l =
+    and-both (inRange (d .states)) (ltb (d .receiver .received) (7 + payloadLength (d .receiver .header))) h
+    (lt-ltb (d .receiver .received) (7 + payloadLength (d .receiver .header)) l)
+
+-- The two ends of a call that is not refused.
+module _ (d : Device) (b out : List ℕ) (k : Ready d) (l : 64 ≤ length out) where
+  pub not-refused : receiveCall d b out ≡ ended (d .states) (receiving (d .receiver) b) out
+  unfolding receiveCall
+  not-refused = rw (le-ltb (length out) 64 l, k .rule)
+
+  abbrev wanted : ℕ
+  wanted = missing (framedBy (d .receiver)) b
+
+  call-waits : length b < wanted
+      → receiveCall d b out ≡ waiting (d .states) (record { taken = length b; complete = false; right = false; receiver = with (d .receiver) b }) out
+  call-waits h = not-refused ∙ ap (λ (t : Received). ended (d .states) t out) (waits (d .receiver) b h)
+
+  call-answers : wanted ≤ length b → receiveCall d b out ≡ answered (d .states) (taking (d .receiver) b (completed (framedBy (d .receiver)) 0 b wanted)) out
+  unfolding taking completed
+  call-answers h = not-refused ∙ ap (λ (t : Received). ended (d .states) t out) (completes (d .receiver) b h)
+
+  by-ends : {P : Type 0} → (length b < wanted → P) → (wanted ≤ length b → P) → P
+  by-ends f g = bool-cases (ltb (length b) wanted) (λ e. f (ltb-true (length b) wanted e)) (λ e. g (ltb-false (length b) wanted e))
+
+-- what is received of a packet that is not complete is short of its size
+few : (d : Device) (b : List ℕ) → inRule d ≡ true → length b < missing (framedBy (d .receiver)) b
+    → d .receiver .received + length b < 7 + payloadLength (sets (d .receiver .header) (d .receiver .received) b)
+unfolding missing
+few d [] r h = omega (arith, unfinished d r)
+few d (x ∷ b) r h = omega (arith, unfinished d r)
+
+ready-waiting : (d : Device) (b : List ℕ) → Ready d → length b < missing (framedBy (d .receiver)) b
+    → Ready (record { states = d .states; receiver = with (d .receiver) b })
+ready-waiting d b k h =
+    record {
+      rule = rule-by (record { states = d .states; receiver = with (d .receiver) b }) (range-of d (k .rule)) (unfold with packetWith in few d b (k .rule) h);
+      made = made-with (d .receiver) b (k .made);
+    }
+
+-- a complete packet leaves the device in rule
+ready-answered : (d : Device) (b out : List ℕ) (n : ℕ) → Ready d → Ready (answered (d .states) (taking (d .receiver) b (completed (framedBy (d .receiver)) 0 b n)) out .device)
+ready-answered d b out n k =
+    let t : Received = taking (d .receiver) b (completed (framedBy (d .receiver)) 0 b n) in
+    record {
+      rule =
+          rule-by (answered (d .states) t out .device) (in-range-kept (d .states) (judgedIn t) (range-of d (k .rule)))
+          (omega (arith, received-none (d .receiver) b n));
+      made = made-completed (d .receiver) b n (k .made);
+    }
+
+-- In rule stays in rule, whatever bytes come.
+pub stays-in-rule : (d : Device) (b out : List ℕ) → Ready d → 64 ≤ length out → Ready (receiveCall d b out .device)
+stays-in-rule d b out k l =
+    by-ends d b out k l
+    (λ h. subst (λ (r : After). Ready (r .device)) (sym (call-waits d b out k l h)) (ready-waiting d b k h))
+    (λ h. subst (λ (r : After). Ready (r .device)) (sym (call-answers d b out k l h)) (ready-answered d b out (missing (framedBy (d .receiver)) b) k))
+
+-- The receive call over a stream.
+module _ (out : List ℕ) (l : 64 ≤ length out) where
+  none-waits : (d : Device) (a : List ℕ) → Ready d → serves out d a .gives ≡ none → length a < missing (framedBy (d .receiver)) a
+  none-waits d a k g =
+      by-ends d a out k l (λ h. h)
+      (λ h.
+      let e = sym (ap (λ (r : After). shown r .gives) (call-answers d a out k l h)) ∙ g in
+      let z : _≡_ {A = ℕ} 0 1 = cc in absurd (omega arith))
+
+  some-answers : (d : Device) (a e : List ℕ) → Ready d → serves out d a .gives ≡ some e → missing (framedBy (d .receiver)) a ≤ length a
+  some-answers d a e k g =
+      by-ends d a out k l
+      (λ h.
+      let e = sym (ap (λ (r : After). shown r .gives) (call-waits d a out k l h)) ∙ g in
+      let z : _≡_ {A = ℕ} 0 1 = cc in absurd (omega arith))
+      (λ h. h)
+
+  shown-by : (s : States) (n : ℕ) (t : Received) (b : Bool)
+      → shown (cond b (answered s (after n t) out) (waiting s (after n t) out)) ≡ shifted n (shown (cond b (answered s t out) (waiting s t out)))
+  unfolding responseIn judgedIn
+  shown-by s n t true = refl
+  shown-by s n t false = refl
+
+  cut-call : (d : Device) (a b : List ℕ) → Ready d → length a < missing (framedBy (d .receiver)) a
+      → serves out d (a ++ b) ≡ shifted (length a) (serves out (record { states = d .states; receiver = with (d .receiver) a }) b)
+  cut-call d a b k h =
+      let t : Received = receiving (with (d .receiver) a) b in
+      ap shown (not-refused d (a ++ b) out k l)
+      ∙ ap (λ (t : Received). shown (ended (d .states) t out)) (cut (d .receiver) a b (k .made .header) h)
+      ∙ shown-by (d .states) (length a) t (t .complete)
+      ∙ ap (λ (r : After). shifted (length a) (shown r))
+      (sym (not-refused (record { states = d .states; receiver = with (d .receiver) a }) b out (ready-waiting d a k h) l))
+
+  behind-call : (d : Device) (a b : List ℕ) → Ready d → missing (framedBy (d .receiver)) a ≤ length a → serves out d (a ++ b) ≡ serves out d a
+  behind-call d a b k h =
+      ap shown (not-refused d (a ++ b) out k l)
+      ∙ ap (λ (t : Received). shown (ended (d .states) t out)) (behind (d .receiver) a b (k .made .header) h)
+      ∙ sym (ap shown (not-refused d a out k l))
+
+  count-answers : (d : Device) (a : List ℕ) → Ready d → missing (framedBy (d .receiver)) a ≤ length a → serves out d a .taken ≡ missing (framedBy (d .receiver)) a
+  unfolding taking completed
+  count-answers d a k h = ap (λ (r : After). shown r .taken) (call-answers d a out k l h)
+
+  pub endpoint-streams : Streaming (serves out) Ready
+  endpoint-streams =
+      record {
+        keeps = λ d b k. stays-in-rule d b out k l;
+        empty = λ d k. ap shown (not-refused d [] out k l) ∙ ap (λ (t : Received). shown (ended (d .states) t out)) (no-bytes (d .receiver) (k .made .sum));
+        cut = λ d a b k g.
+            let h = none-waits d a k g in
+            cut-call d a b k h ∙ ap (λ (x : Device). shifted (length a) (serves out x b)) (sym (ap (λ (r : After). r .device) (call-waits d a out k l h)));
+        behind = λ d a b e k g. behind-call d a b k (some-answers d a e k g);
+        least = λ d a e k g. omega (arith, missing-least (framedBy (d .receiver)) a, count-answers d a k (some-answers d a e k g));
+        most = λ d a e k g. omega (arith, some-answers d a e k g, count-answers d a k (some-answers d a e k g));
+      }
+
+  -- Cutting the stream changes nothing: the responses in order and the device at the end are those of the joined bytes.
+  pub cut-anywhere : (d : Device) (bs : List (List ℕ)) → Ready d → served (serves out) d bs ≡ servedOne (serves out) d (joined bs)
+  cut-anywhere d bs k = in-pieces (serves out) Ready endpoint-streams d bs k

@@ -1,0 +1,2 @@
+-- The laws of judgement.
+pub mod Laws

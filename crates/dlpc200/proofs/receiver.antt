@@ -1,0 +1,2 @@
+-- The laws of receiver.
+pub mod Laws

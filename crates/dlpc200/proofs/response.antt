@@ -1,0 +1,2 @@
+-- The laws of response.
+pub mod Laws

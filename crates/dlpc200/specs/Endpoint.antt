@@ -1,0 +1,76 @@
+-- The receive call: when it refuses, and what it answers and leaves.
+use Prim.Native.Nat.{ℕ}
+use mathlib.Core.Bool.{Bool, true, cond}
+use mathlib.Core.List.{List}
+use lib.Dec.{ltb}
+use lib.ListN.{length}
+use Rattle.packet.specs.Writer.{written}
+use Rattle.dlpc200.specs.Receiver.{receiving}
+use Rattle.dlpc200.specs.declared.receiver.Receiver.{Receiver}
+use Rattle.dlpc200.specs.declared.receiver.Received.{Received}
+use Rattle.dlpc200.specs.Judgement.{Arrived, arrivedBy, judge, statesAfter}
+use Rattle.dlpc200.specs.Response.{response}
+use Rattle.dlpc200.specs.declared.judgement.Judgement.{Judgement}
+use Rattle.dlpc200.specs.declared.states.States.{States}
+use Rattle.dlpc200.specs.declared.device.Device.{Device}
+use Rattle.dlpc200.specs.declared.endpoint.Answer.{Answer}
+use Rattle.dlpc200.specs.declared.endpoint.Answer.the-variants.{Waiting, Answered, ShortOutput, OutOfRule}
+use Rattle.dlpc200.specs.Device.{inRule}
+
+-- What a call answers, in document 01's numbers: a refusal's number; "waiting" and the bytes taken; "answered", the bytes taken and the response's length.
+pub data Outcome : Type 0 where
+  Refuses : ℕ → Outcome
+  Waits : ℕ → Outcome
+  Answers : ℕ → ℕ → Outcome
+
+abbrev pub outcomeOf : Answer → Outcome
+outcomeOf ShortOutput = Refuses 1
+outcomeOf OutOfRule = Refuses 3
+outcomeOf (Waiting n) = Waits n
+outcomeOf (Answered n m) = Answers n m
+
+-- the complete packet, how it is judged, and the response to it
+abbrev pub arrivedIn : Received → Arrived
+arrivedIn t = arrivedBy (t .receiver .header) (t .receiver .id) (t .right)
+
+unfoldable pub judgedIn : Received → Judgement
+judgedIn t = judge (arrivedIn t)
+
+unfoldable pub responseIn : States → Received → List ℕ
+responseIn s t = response s (arrivedIn t) (judgedIn t)
+
+-- what the receiver answers when a packet is complete
+abbrev pub completeBy : ℕ → Bool → Receiver → Received
+completeBy n right r = record { taken = n; complete = true; right = right; receiver = r }
+
+-- The receive call: the answer, the device afterwards, and the output.
+pub record After : Type 0 where
+  pub answer : Outcome
+  pub device : Device
+  pub output : List ℕ
+
+-- a refusal takes nothing and leaves buffer and device untouched
+abbrev pub refused : ℕ → Device → List ℕ → After
+refused n d out = record { answer = Refuses n; device = d; output = out }
+
+-- "waiting": all bytes taken, output untouched
+abbrev pub waiting : States → Received → List ℕ → After
+waiting s t out = record { answer = Waits (t .taken); device = record { states = s; receiver = t .receiver }; output = out }
+
+-- "answered": the response at the output's start, the rest untouched
+abbrev pub answered : States → Received → List ℕ → After
+answered s t out =
+    record {
+      answer = Answers (t .taken) (length (responseIn s t));
+      device = record { states = statesAfter s (judgedIn t); receiver = t .receiver };
+      output = written (responseIn s t) out;
+    }
+
+-- the end of a call that is not refused, t being what the receiver took
+abbrev pub ended : States → Received → List ℕ → After
+ended s t out = cond (t .complete) (answered s t out) (waiting s t out)
+
+-- tested in the order 1, 3
+unfoldable pub receiveCall : Device → List ℕ → List ℕ → After
+receiveCall d input out =
+    cond (ltb (length out) 64) (refused 1 d out) (cond (inRule d) (ended (d .states) (receiving (d .receiver) input) out) (refused 3 d out))

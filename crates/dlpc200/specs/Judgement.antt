@@ -1,0 +1,92 @@
+-- How a complete packet is judged, what a judgement changes, and the response that it draws.
+use Prim.Native.Nat.{ℕ}
+use mathlib.Core.Bool.{Bool, cond, not, _||_}
+use mathlib.Core.List.{List}
+use lib.Dec.{eqb, ltb}
+use Rattle.packet.specs.Packet.{payloadLength, payload}
+use Rattle.dlpc200.specs.Packet.{cmd1Of, cmd2Of, cmd4Of, idOf, write, read, extended, only, rightSum}
+use Rattle.dlpc200.specs.Table.{cmd1For, sizeFor, commandOf}
+use Rattle.dlpc200.specs.States.{parkAfter}
+use Rattle.dlpc200.specs.Status.{anyFault, noFaults}
+use Rattle.dlpc200.specs.declared.table.Found.{Found}
+use Rattle.dlpc200.specs.declared.table.Found.the-variants.{Known, Unknown}
+use Rattle.dlpc200.specs.declared.status.Faults.{Faults}
+use Rattle.dlpc200.specs.declared.judgement.Judgement.{Judgement}
+use Rattle.dlpc200.specs.declared.judgement.Judgement.the-variants.{Failed, Done}
+use Rattle.dlpc200.specs.declared.states.States.{States}
+
+-- a complete packet, as far as it is judged; CMD3 is not
+pub record Arrived : Type 0 where
+  pub cmd1 : ℕ
+  pub cmd2 : ℕ
+  pub cmd4 : ℕ
+  pub size : ℕ
+  pub right : Bool
+  pub command : Found
+
+-- the command of a packet with n data bytes, d being the first of them: its ID takes two, and with fewer it has none
+unfoldable pub commandIn : ℕ → List ℕ → Found
+commandIn n d = cond (ltb n 2) Unknown (commandOf (idOf d))
+
+-- the packet of this command and header, and a checksum that was right or not
+abbrev pub arrivedOf : Found → List ℕ → Bool → Arrived
+arrivedOf c h right =
+    record {
+      cmd1 = cmd1Of h;
+      cmd2 = cmd2Of h;
+      cmd4 = cmd4Of h;
+      size = payloadLength h;
+      right = right;
+      command = c;
+    }
+
+-- d being its first data bytes
+abbrev pub arrivedBy : List ℕ → List ℕ → Bool → Arrived
+arrivedBy h d right = arrivedOf (commandIn (payloadLength h) d) h right
+
+-- the packet of these bytes
+abbrev pub arrived : List ℕ → Arrived
+arrived p = arrivedBy p (payload p) (rightSum p)
+
+-- The faults; every one that holds is set.
+
+-- CMD1 is neither 02 nor 04, or is the wrong one for its command
+unfoldable pub wrongCmd1 : Found → ℕ → Bool
+wrongCmd1 Unknown cmd1 = not (eqb cmd1 write || eqb cmd1 read)
+wrongCmd1 (Known c) cmd1 = not (eqb cmd1 write || eqb cmd1 read) || not (eqb cmd1 (cmd1For c))
+
+-- the data are under two or over 504 bytes, or not of the command's size
+unfoldable pub wrongSize : Found → ℕ → Bool
+wrongSize Unknown n = ltb n 2 || ltb 504 n
+wrongSize (Known c) n = ltb n 2 || ltb 504 n || not (eqb n (sizeFor c))
+
+unfoldable pub faultsOf : Arrived → Faults
+faultsOf p =
+    record {
+      checksum = not (p .right);
+      cmd1 = wrongCmd1 (p .command) (p .cmd1);
+      cmd2 = not (eqb (p .cmd2) extended);
+      cmd4 = not (eqb (p .cmd4) only);
+      size = wrongSize (p .command) (p .size);
+    }
+
+-- with no fault: an unknown command by itself fails, and sets bit 6 alone
+abbrev pub judgeCommand : Found → Judgement
+judgeCommand Unknown = Failed noFaults
+judgeCommand (Known c) = Done c
+
+-- a packet fails if a fault holds, or its command is unknown
+unfoldable pub judgedBy : Faults → Found → Judgement
+judgedBy f c = cond (anyFault f) (Failed f) (judgeCommand c)
+
+unfoldable pub judge : Arrived → Judgement
+judge p = judgedBy (faultsOf p) (p .command)
+
+-- What a judgement changes: park sets what 0015 reads and unpark clears it; a failed packet changes nothing.
+
+abbrev pub withPark : States → ℕ → States
+withPark s v = record { park = v; sequence = s .sequence; eeprom = s .eeprom; flash = s .flash; lit = s .lit }
+
+abbrev pub statesAfter : States → Judgement → States
+statesAfter s (Failed f) = s
+statesAfter s (Done c) = withPark s (parkAfter c (s .park))

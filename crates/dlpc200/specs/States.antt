@@ -1,0 +1,39 @@
+-- The seven commands: their IDs, the CMD1 and the data size of their packets, and the states that they read.
+use Prim.Native.Nat.{ℕ}
+use mathlib.Core.Bool.{Bool, _&&_}
+use mathlib.Core.List.{List, [], _∷_}
+use lib.Dec.{leb}
+use Rattle.dlpc200.specs.declared.table.Command.{Command}
+use Rattle.dlpc200.specs.declared.table.Command.the-variants.{ParkDmd, UnparkDmd, GetDmdSoftwareParkState, GetSeqRunState, GetEepromFault, GetInitFromParallelFlashFail, GetOverallLedLampLitState}
+use Rattle.dlpc200.specs.declared.states.States.{States}
+use Rattle.dlpc200.specs.declared.states.Shown.{Shown}
+use Rattle.dlpc200.specs.declared.states.Shown.the-variants.{State, Nothing}
+
+-- what a command answers behind the status bytes: a Get command its state
+abbrev pub shownOf : States → Command → Shown
+shownOf s ParkDmd = Nothing
+shownOf s UnparkDmd = Nothing
+shownOf s GetDmdSoftwareParkState = State (s .park)
+shownOf s GetSeqRunState = State (s .sequence)
+shownOf s GetEepromFault = State (s .eeprom)
+shownOf s GetInitFromParallelFlashFail = State (s .flash)
+shownOf s GetOverallLedLampLitState = State (s .lit)
+
+-- as data
+abbrev pub dataOf : Shown → List ℕ
+dataOf Nothing = []
+dataOf (State v) = v ∷ []
+
+-- the park state after a command that was carried out
+abbrev pub parkAfter : Command → ℕ → ℕ
+parkAfter ParkDmd v = 1
+parkAfter UnparkDmd v = 0
+parkAfter GetDmdSoftwareParkState v = v
+parkAfter GetSeqRunState v = v
+parkAfter GetEepromFault v = v
+parkAfter GetInitFromParallelFlashFail v = v
+parkAfter GetOverallLedLampLitState v = v
+
+-- each state is in its section's range: 0 or 1, and that of 0029 from 0 to 7
+unfoldable pub inRange : States → Bool
+inRange s = leb (s .park) 1 && leb (s .sequence) 1 && leb (s .eeprom) 1 && leb (s .flash) 7 && leb (s .lit) 1

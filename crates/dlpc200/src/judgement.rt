@@ -1,0 +1,92 @@
+// How a complete packet is judged: every fault that holds.
+use crate::states::States;
+use crate::status::Faults;
+use crate::table::Command;
+use crate::table::Found;
+ghost use mathlib.Core.Path.{_≡_};
+ghost use Rattle.dlpc200.specs.Judgement.{arrivedBy, arrivedOf, commandIn, faultsOf, judge as judgeOf, judgedBy, statesAfter, wrongCmd1, wrongSize};
+
+pub(crate) enum Judgement {
+    // The packet failed, with these faults; with none of them its command is unknown.
+    Failed(Faults),
+    // The command is carried out.
+    Done(Command),
+}
+
+// The command of a packet with so many data bytes, of which these are the first.
+fn command_in(size: usize, id: [u8; 2]) -> Found
+    ensures { λ r. ⌜ r ≡ commandIn size id ⌝ }
+{
+    if size < 2 {
+        return Found::Unknown;
+    }
+    Command::find(packet::word(id[0], id[1]))
+}
+
+// CMD1 is neither 02 nor 04, or the wrong one for its command.
+fn wrong_cmd1(found: Found, cmd1: u8) -> bool
+    ensures { λ r. ⌜ r ≡ wrongCmd1 found cmd1 ⌝ }
+{
+    let other = !((cmd1 == crate::header::WRITE) | (cmd1 == crate::header::READ));
+    let Found::Known(c) = found else {
+        return other;
+    };
+    other | !(cmd1 == c.cmd1())
+}
+
+// The data are of the wrong size: under two or over 504 bytes, or not the command's size.
+fn wrong_size(found: Found, size: usize) -> bool
+    ensures { λ r. ⌜ r ≡ wrongSize found size ⌝ }
+{
+    let other = (size < 2) | (504 < size);
+    let Found::Known(_) = found else {
+        return other;
+    };
+    other | !(size == 2)
+}
+
+// Every fault that holds of a packet of this command.
+fn faults_in(found: Found, header: [u8; 6], right: bool) -> Faults
+    ensures { λ r. ⌜ r ≡ faultsOf (arrivedOf found header right) ⌝ }
+{
+    Faults {
+        checksum: !right,
+        cmd1: wrong_cmd1(found, header[0]),
+        cmd2: !(header[1] == crate::header::EXTENDED),
+        cmd4: !(header[3] == crate::header::ONLY),
+        size: wrong_size(found, packet::word(header[4], header[5])),
+    }
+}
+
+// A packet of this command with these faults.
+fn judged(faults: Faults, found: Found) -> Judgement
+    ensures { λ r. ⌜ r ≡ judgedBy faults found ⌝ }
+{
+    if faults.any() {
+        return Judgement::Failed(faults);
+    }
+    match found {
+        Found::Known(c) => Judgement::Done(c),
+        Found::Unknown => Judgement::Failed(Faults::none()),
+    }
+}
+
+// A complete packet: its header, its first two data bytes, and whether its checksum was right.
+pub(crate) fn judge(header: [u8; 6], id: [u8; 2], right: bool) -> Judgement
+    ensures { λ r. ⌜ r ≡ judgeOf (arrivedBy header id right) ⌝ }
+{
+    let found = command_in(packet::word(header[4], header[5]), id);
+    judged(faults_in(found, header, right), found)
+}
+
+// The states after a packet that was judged so.
+pub(crate) fn states_after(s: States, j: Judgement) -> States
+    ensures { λ r. ⌜ r ≡ statesAfter s j ⌝ }
+{
+    let mut t = s;
+    let Judgement::Done(c) = j else {
+        return t;
+    };
+    t.park = c.park(t.park);
+    t
+}

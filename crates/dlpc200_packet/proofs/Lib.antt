@@ -1,2 +1,0 @@
--- The laws of the receiver, for its own proofs and for the crates above.
-pub mod Receiving

@@ -1,3 +1,0 @@
--- What the contracts cite, in the order of the source document.
-pub mod Packet
-pub mod Receiving

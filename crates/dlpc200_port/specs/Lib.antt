@@ -1,2 +1,0 @@
--- What the contracts of the exports cite.
-pub mod Replies

@@ -1,2 +1,0 @@
--- The laws of emitting, for the layers above.
-pub mod Emitting

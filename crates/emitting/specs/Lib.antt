@@ -1,2 +1,0 @@
--- What the contracts of emitting cite.
-pub mod Emitting

@@ -1,2 +1,0 @@
--- What the contracts of the encoder and the standard list cite.
-pub mod Encoding

@@ -1,2 +1,0 @@
--- The theorems of the exported calls.
-pub mod Verdicts

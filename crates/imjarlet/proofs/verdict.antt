@@ -1,0 +1,2 @@
+-- The laws of verdict.
+pub mod Laws

@@ -1,0 +1,2 @@
+-- The laws of number.
+pub mod Laws

@@ -1,0 +1,4 @@
+-- The laws of receiver.
+pub mod Laws
+pub mod Lent
+pub mod Streams

@@ -1,0 +1,2 @@
+-- The laws of stream.
+pub mod Laws

@@ -1,0 +1,176 @@
+-- Laws of framing: the packets of a list of bytes.
+use Prim.Native.Nat.{ℕ, zero, suc, _+_, _*_, _<_, _≤_}
+use mathlib.Core.Path.{_≡_, refl, ap, ap₂, sym, _∙_, subst}
+use mathlib.Core.Bool.{true, false, and-false}
+use mathlib.Core.List.{List, [], _∷_, _++_, append-assoc}
+use native.Mathlib.Omega.{arith}
+use lib.Dec.{leb}
+use borrow.Author.Tests.{leb-true, le-leb, lt-leb}
+use lib.ListN.{length, take, drop, getD, length-append, take-append-drop, length-drop, List·getD-append}
+use lib.Seq.{drop-append-add, take-at, drop-at, getD-drop, length-take-le}
+use Rattle.packet.specs.Number.{Bytes}
+use Rattle.packet.specs.Stream.{nextIn, size, hasPacket, packetsIn, packets, bytesIn, rest}
+use Rattle.packet.specs.declared.stream.Next.the-variants.{Packet, Nothing}
+use Rattle.packet.proofs.Cases.{cond-cases, bool-cases, and-right, and-both}
+use Rattle.packet.proofs.number.Laws.{bytes-take, bytes-drop}
+
+-- p is one whole packet
+pub record IsPacket (p : List ℕ) : Type 0 where
+  pub least : 7 ≤ length p
+  pub exact : size p ≡ length p
+
+-- every packet is of bytes
+abbrev pub AllBytes : List (List ℕ) → Type 0
+AllBytes [] = Unit {0}
+AllBytes (p ∷ ps) = Bytes p × AllBytes ps
+
+pub size-append : (p b : List ℕ) → 7 ≤ length p → size (p ++ b) ≡ size p
+unfolding size
+size-append p b h = rw (List·getD-append p b 0 4 (omega arith), List·getD-append p b 0 5 (omega arith))
+
+pub has-packet : (b : List ℕ) → 7 ≤ length b → size b ≤ length b → hasPacket b ≡ true
+unfolding hasPacket
+has-packet b h l = and-both (leb 7 (length b)) (leb (size b) (length b)) (le-leb 7 (length b) h) (le-leb (size b) (length b) l)
+
+pub no-header : (b : List ℕ) → length b < 7 → hasPacket b ≡ false
+unfolding hasPacket
+no-header b h = rw (lt-leb 7 (length b) h)
+
+pub no-end : (b : List ℕ) → length b < size b → hasPacket b ≡ false
+unfolding hasPacket
+no-end b h = rw (lt-leb (size b) (length b) h, and-false (leb 7 (length b)))
+
+pub size-within : (b : List ℕ) → hasPacket b ≡ true → size b ≤ length b
+unfolding hasPacket
+size-within b h = leb-true (size b) (length b) (and-right (leb 7 (length b)) (leb (size b) (length b)) h)
+
+pub seven : (b : List ℕ) → 7 ≤ size b
+unfolding size
+seven b = omega arith
+
+pub packet-front : (p b : List ℕ) → IsPacket p → hasPacket (p ++ b) ≡ true
+packet-front p b h =
+    let e : size (p ++ b) ≡ length p = size-append p b (h .least) ∙ h .exact in
+    let l : length (p ++ b) ≡ length p + length b = length-append p b in
+    has-packet (p ++ b) (omega (arith, h .least)) (omega arith)
+
+-- what is left behind the packet is shorter
+shorter : (b : List ℕ) (n : ℕ) → hasPacket b ≡ true → length b ≤ suc n → length (drop (size b) b) ≤ n
+shorter b n h l = simp length-drop (omega (arith, size-within b h, seven b))
+
+-- more turns than bytes change nothing
+same-packets : (m n : ℕ) (b : List ℕ) → length b ≤ m → length b ≤ n → packetsIn m b ≡ packetsIn n b
+unfolding packetsIn
+same-packets zero zero b hm hn = refl
+same-packets zero (suc n) [] hm hn = unfold hasPacket in refl
+same-packets zero (suc n) (x ∷ b) hm hn = absurd (omega arith)
+same-packets (suc m) zero [] hm hn = unfold hasPacket in refl
+same-packets (suc m) zero (x ∷ b) hm hn = absurd (omega arith)
+same-packets (suc m) (suc n) b hm hn =
+    bool-cases (hasPacket b)
+    (λ e. rw e (ap {B = List (List ℕ)} (λ l. take (size b) b ∷ l) (same-packets m n (drop (size b) b) (shorter b m e hm) (shorter b n e hn))))
+    (λ e. rw e)
+
+-- a stream that is a packet followed by anything has that packet first
+pub packets-cons : (p b : List ℕ) → IsPacket p → packets (p ++ b) ≡ p ∷ packets b
+unfolding packets packetsIn
+packets-cons p b h = go (length (p ++ b)) (omega (arith, length-append p b, h .least)) (omega (arith, length-append p b, h .least))
+  where
+    go : (n : ℕ) → 0 < n → length b < n → packetsIn n (p ++ b) ≡ p ∷ packetsIn (length b) b
+    go zero z l = absurd (omega arith)
+    go (suc n) z l =
+        let e : size (p ++ b) ≡ length p = size-append p b (h .least) ∙ h .exact in
+        rw (packet-front p b h, e, take-at p b (length p) refl, drop-at p b (length p) refl, same-packets n (length b) b (omega arith) (omega arith))
+
+pub rest-cons : (p b : List ℕ) → IsPacket p → rest (p ++ b) ≡ rest b
+unfolding rest bytesIn
+rest-cons p b h = rw (packets-cons p b h, drop-append-add p b (bytesIn (packets b)))
+
+pub packets-none : (b : List ℕ) → hasPacket b ≡ false → packets b ≡ []
+unfolding packets
+packets-none b h = go (length b)
+  where
+    go : (n : ℕ) → packetsIn n b ≡ []
+    go zero = unfold packetsIn in refl
+    go (suc n) = unfold packetsIn in rw h
+
+pub rest-none : (b : List ℕ) → hasPacket b ≡ false → rest b ≡ b
+unfolding rest bytesIn
+rest-none b h = rw (packets-none b h)
+
+pub first-packet : (b : List ℕ) → hasPacket b ≡ true → IsPacket (take (size b) b)
+first-packet b h =
+    let l : length (take (size b) b) ≡ size b = length-take-le (size b) b (size-within b h) in
+    let m : 7 ≤ length (take (size b) b) = omega (arith, seven b) in
+    let e : size (take (size b) b ++ drop (size b) b) ≡ size (take (size b) b) = size-append (take (size b) b) (drop (size b) b) m in
+    record { least = m; exact = sym e ∙ ap size (take-append-drop (size b) b) ∙ sym l }
+
+-- what holds where no packet is whole, and of a packet in front of what it holds of, holds of every list
+pub packet-induction : (P : List ℕ → Type 0) → ((b : List ℕ) → hasPacket b ≡ false → P b) → ((p b : List ℕ) → IsPacket p → P b → P (p ++ b)) → (b : List ℕ) → P b
+packet-induction P none more b = go (length b) b (omega arith)
+  where
+    go : (n : ℕ) (b : List ℕ) → length b ≤ n → P b
+    go zero b l = none b (no-header b (omega arith))
+    go (suc n) b l =
+        let next : hasPacket b ≡ true → P (drop (size b) b) = λ e. go n (drop (size b) b) (shorter b n e l) in
+        bool-cases (hasPacket b)
+        (λ e. subst P (take-append-drop (size b) b) (more (take (size b) b) (drop (size b) b) (first-packet b e) (next e)))
+        (λ e. none b e)
+
+-- joined streams: the packets of the first, then those of what it left with the second behind it
+pub packets-joined : (a b : List ℕ) → packets (a ++ b) ≡ packets a ++ packets (rest a ++ b)
+packets-joined a b =
+    packet-induction (λ x. packets (x ++ b) ≡ packets x ++ packets (rest x ++ b))
+    (λ x h. rw (packets-none x h, rest-none x h))
+    (λ p x i h. ap packets (append-assoc p x b) ∙ packets-cons p (x ++ b) i ∙ ap {B = List (List ℕ)} (λ t. p ∷ t) h
+    ∙ sym (ap₂ (λ u v. u ++ packets (v ++ b)) (packets-cons p x i) (rest-cons p x i)))
+    a
+
+pub rest-joined : (a b : List ℕ) → rest (a ++ b) ≡ rest (rest a ++ b)
+rest-joined a b =
+    packet-induction (λ x. rest (x ++ b) ≡ rest (rest x ++ b))
+    (λ x h. rw (rest-none x h))
+    (λ p x i h. ap rest (append-assoc p x b) ∙ rest-cons p (x ++ b) i ∙ h ∙ sym (ap (λ v. rest (v ++ b)) (rest-cons p x i)))
+    a
+
+-- what is left has no packet
+pub rest-short : (b : List ℕ) → hasPacket (rest b) ≡ false
+rest-short b =
+    packet-induction (λ x. hasPacket (rest x) ≡ false)
+    (λ x h. ap hasPacket (rest-none x h) ∙ h)
+    (λ p x i h. ap hasPacket (rest-cons p x i) ∙ h)
+    b
+
+some-bytes : (n : ℕ) (b : List ℕ) → Bytes b → AllBytes (packetsIn n b)
+unfolding packetsIn
+some-bytes zero b h = tt
+some-bytes (suc n) b h =
+    cond-cases AllBytes (hasPacket b)
+    (λ e. (bytes-take (size b) b h, some-bytes n (drop (size b) b) (bytes-drop (size b) b h)))
+    (λ e. tt)
+
+pub packets-bytes : (b : List ℕ) → Bytes b → AllBytes (packets b)
+unfolding packets
+packets-bytes b h = some-bytes (length b) b h
+
+pub packets-nil : packets [] ≡ []
+unfolding packets packetsIn
+packets-nil = refl
+
+pub rest-nil : rest [] ≡ []
+unfolding rest bytesIn packets packetsIn
+rest-nil = refl
+
+-- the next packet, where there is one and where there is none
+pub next-some : (b : List ℕ) → hasPacket b ≡ true → nextIn b ≡ Packet (size b)
+unfolding nextIn
+next-some b h = rw h
+
+pub next-none : (b : List ℕ) → hasPacket b ≡ false → nextIn b ≡ Nothing
+unfolding nextIn
+next-none b h = rw h
+
+-- the size of the packet at a place of a buffer
+pub size-at : (b : List ℕ) (at : ℕ) {n : ℕ} → n ≡ getD b (at + 4) 0 + 256 * getD b (at + 5) 0 → size (drop at b) ≡ 7 + n
+unfolding size
+size-at b at e = rw (getD-drop at b 4 0, getD-drop at b 5 0) (omega arith)

@@ -1,0 +1,2 @@
+-- The laws of writer.
+pub mod Laws

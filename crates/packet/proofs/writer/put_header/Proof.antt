@@ -1,0 +1,39 @@
+-- `put_header` meets its contract.
+use mathlib.Core.Path.{refl}
+use native.Mathlib.Omega.{arith}
+use lib.ListN.{length-set}
+use Rattle.packet.specs.Number.{bytesOf}
+use borrow.Author.Needs.{needs}
+use Rattle.packet.proofs.writer.put_header.Statement.{statement}
+use Rattle.packet.proofs.writer.put_header.Tie as tie
+
+slice-write-out-2 : tie.Need-slice-write-out-2
+slice-write-out-2 c = simp length-set (omega arith)
+
+slice-write-out-3 : tie.Need-slice-write-out-3
+slice-write-out-3 c = simp length-set (omega arith)
+
+slice-write-out-4 : tie.Need-slice-write-out-4
+slice-write-out-4 c = simp length-set (omega arith)
+
+slice-write-out-5 : tie.Need-slice-write-out-5
+slice-write-out-5 c = simp length-set (omega arith)
+
+returns : tie.Need-returns
+unfolding bytesOf
+returns c = refl
+
+pub put-header-spec : {M : Type 1} → statement M
+put-header-spec =
+    tie.close
+    (tie.spec
+    (λ c. search needs)
+    slice-write-out-2
+    slice-write-out-3
+    slice-write-out-4
+    (λ c. search needs)
+    slice-write-out-5
+    (λ c. search needs)
+    (λ c. search needs)
+    (λ c. search needs)
+    returns)

@@ -1,0 +1,63 @@
+// Runs of bytes: summed, and stored as far as there is room.
+ghost use mathlib.Core.Path.{_≡_};
+ghost use Prim.Native.Nat.{_+_, _-_, _%_, min};
+ghost use lib.ListN.{drop};
+ghost use lib.Seq.{sets};
+ghost use Rattle.packet.specs.Packet.{sum as sumOf};
+
+// How many payload bytes the hold has room for.
+pub(crate) const HOLD: usize = 1024;
+
+// a less b, and nothing where b is more.
+pub(crate) fn less(a: usize, b: usize) -> usize
+    ensures { λ r. ⌜ r ≡ a - b ⌝ }
+{
+    if a < b {
+        return 0;
+    }
+    a - b
+}
+
+pub(crate) fn least(a: usize, b: usize) -> usize
+    ensures { λ r. ⌜ r ≡ min a b ⌝ }
+{
+    if b < a {
+        return b;
+    }
+    a
+}
+
+// A running sum with these bytes more, modulo 256.
+pub(crate) fn sum_with(from: u8, b: &[u8]) -> u8
+    ensures { λ r. ⌜ r ≡ (from + sumOf (now (b .entry))) % 256 ⌝ }
+{
+    let mut sum = from;
+    let mut i: usize = 0;
+    while i < b.len() {
+        sum = std::num::wrapping_add_u8(sum, b[i]);
+        i += 1;
+    }
+    sum
+}
+
+// Stores bytes from a place on. Those that find no room are dropped.
+pub(crate) fn store(into: &mut [u8], at: usize, b: &[u8])
+    ensures { λ _. ⌜ now (into .exit) ≡ sets (now (into .entry)) at (now (b .entry)) ⌝ }
+{
+    let n = least(less(into.len(), at), b.len());
+    let mut i: usize = 0;
+    while i < n {
+        into[at + i] = b[i];
+        i += 1;
+    }
+}
+
+// Stores the payload among these bytes behind the bytes that are held, so many bytes of the packet
+// having come in before.
+pub(crate) fn keep(hold: &mut [u8; 1024], held: usize, received: usize, b: &[u8])
+    ensures { λ _. ⌜ now (hold .exit) ≡ sets (now (hold .entry)) (held + (received - 6)) (drop (6 - received) (now (b .entry))) ⌝ }
+{
+    let skip = least(less(6, received), b.len());
+    let at = least(held, HOLD) + least(less(received, 6), HOLD);
+    store(hold, at, &b[skip..]);
+}

@@ -1,0 +1,41 @@
+// packet.
+ghost use mathlib.Core.Path.{_≡_};
+ghost use Rattle.packet.specs.Packet.{typesAndFlags};
+
+// Types of packets that the head sends.
+pub const ERROR: u8 = 0x01;
+
+pub const WRITE_RESPONSE: u8 = 0x03;
+
+pub const READ_RESPONSE: u8 = 0x05;
+
+// Types of packets that the host sends.
+pub const HOST_WRITE: u8 = 0x02;
+
+pub const HOST_READ: u8 = 0x04;
+
+// Flags: the packet is a whole write, or one part of a transfer.
+pub const WHOLE: u8 = 0x00;
+
+pub const BEGINNING: u8 = 0x01;
+
+pub const INTERMEDIATE: u8 = 0x02;
+
+pub const LAST: u8 = 0x03;
+
+// The numbers above in the order of the document: the types 01 to 05, then the flags 00 to 03.
+pub fn types_and_flags() -> [u8; 9]
+    ensures { λ r. ⌜ r ≡ typesAndFlags ⌝ }
+{
+    [
+        ERROR,
+        HOST_WRITE,
+        WRITE_RESPONSE,
+        HOST_READ,
+        READ_RESPONSE,
+        WHOLE,
+        BEGINNING,
+        INTERMEDIATE,
+        LAST,
+    ]
+}

@@ -1,0 +1,77 @@
+// Writing a packet to a lent buffer.
+ghost use mathlib.Core.Path.{_≡_};
+ghost use Prim.Native.Nat.{_+_, _≤_, _<_};
+ghost use lib.ListN.{length, take, set};
+ghost use lib.Seq.{sets};
+ghost use Rattle.packet.specs.Packet.{header, checksum};
+ghost use Rattle.packet.specs.Writer.{answerTo, outputAfter};
+
+// What the call answers: how many bytes were written, or that the packet does not go into the
+// buffer or the data into a packet.
+pub enum Written {
+    Length(usize),
+    NoRoom,
+}
+
+// The six header bytes.
+fn put_header(out: &mut [u8], kind: u8, cmd1: u8, cmd2: u8, flags: u8, n: usize)
+    requires { ⌜ 6 ≤ length (now out) ⌝ }
+    ensures { λ _. ⌜ now (out .exit) ≡ sets (now (out .entry)) 0 (header kind cmd1 cmd2 flags n) ⌝ }
+{
+    out[0] = kind;
+    out[1] = cmd1;
+    out[2] = cmd2;
+    out[3] = flags;
+    out[4] = (n % 256) as u8;
+    out[5] = (n / 256 % 256) as u8;
+}
+
+// The payload behind the header.
+fn put_payload(out: &mut [u8], payload: &[u8])
+    requires { ⌜ 6 + length (now payload) ≤ length (now out) ⌝ }
+    ensures { λ _. ⌜ now (out .exit) ≡ sets (now (out .entry)) 6 (now (payload .entry)) ⌝ }
+{
+    let mut i: usize = 0;
+    while i < payload.len() {
+        out[6 + i] = payload[i];
+        i += 1;
+    }
+}
+
+// The checksum of the first n bytes goes behind them.
+fn seal(out: &mut [u8], n: usize)
+    requires { ⌜ n < length (now out) ⌝ }
+    ensures { λ _. ⌜ now (out .exit) ≡ set (now (out .entry)) n (checksum (take n (now (out .entry)))) ⌝ }
+{
+    let mut sum: u8 = 0;
+    let mut i: usize = 0;
+    while i < n {
+        sum = std::num::wrapping_add_u8(sum, out[i]);
+        i += 1;
+    }
+    out[n] = sum;
+}
+
+// Writes the packet of these fields and data to the start of out; the rest of out stays.
+pub fn write_packet(
+    out: &mut [u8],
+    kind: u8,
+    cmd1: u8,
+    cmd2: u8,
+    flags: u8,
+    payload: &[u8],
+) -> Written
+    ensures { λ r. ⌜ (r ≡ answerTo (length (now (out .entry))) (now (payload .entry))) × (now (out .exit) ≡ outputAfter kind cmd1 cmd2 flags (now (payload .entry)) (now (out .entry))) ⌝ }
+{
+    let n = payload.len();
+    if 65535 < n {
+        return Written::NoRoom;
+    }
+    if out.len() < n + 7 {
+        return Written::NoRoom;
+    }
+    put_header(out, kind, cmd1, cmd2, flags, n);
+    put_payload(out, payload);
+    seal(out, n + 6);
+    Written::Length(n + 7)
+}

@@ -1,2 +1,0 @@
--- The laws of a play.
-pub mod Going

@@ -1,2 +1,0 @@
--- What the contract of a play cites.
-pub mod Played

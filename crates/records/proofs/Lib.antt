@@ -1,3 +1,0 @@
--- The laws of records.
-pub mod Records
-pub mod Parts

@@ -1,0 +1,2 @@
+-- The laws of end.
+pub mod Steps

@@ -1,0 +1,2 @@
+-- The laws of head.
+pub mod Steps

@@ -1,0 +1,3 @@
+-- The laws of record.
+pub mod Laws
+pub mod Parts

@@ -1,0 +1,3 @@
+-- The laws of verdict.
+pub mod Flat
+pub mod Laws

@@ -1,0 +1,40 @@
+-- Records of the tuning report: a refusal or a value, and the record that is due.
+use Prim.Native.Nat.{ℕ, _+_}
+use mathlib.Core.Bool.{Bool, true, false, _&&_}
+use mathlib.Core.List.{List}
+use lib.Dec.{eqb, leb}
+use lib.ListN.{length, take, drop}
+use Rattle.packet.specs.Number.{valueOf}
+
+infixl 20 _>>=_
+infixl 20 _>>_
+-- a refusal, its number and its place, or a value
+pub data Out (A : Type 0) : Type 0 where
+  Bad : ℕ → ℕ → Out A
+  Good : A → Out A
+
+-- the first refusal ends the reading
+unfoldable pub _>>=_ : {A B : Type 0} → Out A → (A → Out B) → Out B
+Bad n p >>= f = Bad n p
+Good a >>= f = f a
+
+abbrev pub _>>_ : {B : Type 0} → Out Bool → Out B → Out B
+m >> k = m >>= λ u. k
+
+-- refused with this number and place where the test fails
+unfoldable pub need : Bool → ℕ → ℕ → Out Bool
+need true n p = Good true
+need false n p = Bad n p
+
+-- a record's body, and the bytes after the record
+pub record Piece : Type 0 where
+  pub body : List ℕ
+  pub left : List ℕ
+
+-- Records: body length (2 bytes), kind (2 bytes), body. The one that is due is of this kind, at this place, and b is left:
+-- 11 where b is fewer bytes than its header or body needs, 12 where it is of another kind.
+unfoldable pub reading : ℕ → ℕ → List ℕ → Out Piece
+reading kind at b = do
+  need (leb 4 (length b) && leb (4 + valueOf (take 2 b)) (length b)) 11 at
+  need (eqb (valueOf (take 2 (drop 2 b))) kind) 12 at
+  Good (record { body = take (valueOf (take 2 b)) (drop 4 b); left = drop (4 + valueOf (take 2 b)) b })

@@ -1,2 +1,0 @@
--- The laws of the end.
-pub mod Steps

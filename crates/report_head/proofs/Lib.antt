@@ -1,2 +1,0 @@
--- The laws of the head.
-pub mod Steps

@@ -1,2 +1,0 @@
--- What the contract of the receive call cites.
-pub mod Calls

@@ -1,2 +1,0 @@
--- The laws of a trial.
-pub mod Steps

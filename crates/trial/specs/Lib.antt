@@ -1,2 +1,0 @@
--- What the contract of a trial cites.
-pub mod Trials

@@ -1,3 +1,0 @@
--- The laws of the trials.
-pub mod Lowest
-pub mod Walking

@@ -1,2 +1,0 @@
--- What the contracts of the trials cite.
-pub mod Found

@@ -1,2 +1,0 @@
--- What the contracts of a packet's data cite.
-pub mod Data

@@ -1,3 +1,0 @@
--- What the contracts of a command's values cite.
-pub mod Fields
-pub mod Values

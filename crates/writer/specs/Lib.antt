@@ -1,2 +1,0 @@
--- What the contract of the writer cites.
-pub mod Writing
