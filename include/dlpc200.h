@@ -1,4 +1,4 @@
-/* The DLPC200 on its SPI port: C's view of crate dlpc200_port (libdlpc200_port.a, made by `rt staticlib dlpc200_port`).
+/* The DLPC200 on its SPI port: C's view of crate dlpc200 (libdlpc200.a, made by `rt staticlib dlpc200`).
  * Nothing checks this file against the Rattle source but tests/dlpc200/run. */
 #ifndef DLPC200_H
 #define DLPC200_H

@@ -1,8 +1,8 @@
-//! The DLPC200 on its SPI port, as safe Rust over the static library libdlpc200_port.a, which
-//! `rt staticlib dlpc200_port` writes to target/staticlib.
+//! The DLPC200 on its SPI port, as safe Rust over the static library libdlpc200.a, which
+//! `rt staticlib dlpc200` writes to target/staticlib.
 //!
 //! A program takes this file in by `#[path = "include/dlpc200.rs"] mod dlpc200;` and links by
-//! `-L target/staticlib -l static=dlpc200_port`. It needs nothing but `core`.
+//! `-L target/staticlib -l static=dlpc200`. It needs nothing but `core`.
 #![allow(dead_code)]
 
 /// The shortest output that a receive call takes.

@@ -1,7 +1,7 @@
 /*
  * Imjarlet: the command endpoint of a projector head, and the checker of tuning reports, for C.
  *
- * Link with libhead.a, which `rt staticlib head` writes to target/staticlib. The archive holds
+ * Link with libimjarlet.a, which `rt staticlib imjarlet` writes to target/staticlib. The archive holds
  * x86-64 code for Linux and the sizes and offsets below are those of that target; README.md says
  * what firmware on another processor can take. C99 or later.
  *

@@ -1,8 +1,8 @@
 //! Imjarlet: the command endpoint of a projector head, and the checker of tuning reports, as safe
-//! Rust over the static library libhead.a, which `rt staticlib head` writes to target/staticlib.
+//! Rust over the static library libimjarlet.a, which `rt staticlib imjarlet` writes to target/staticlib.
 //!
 //! The archive holds x86-64 code for Linux (README.md). A program takes this file in by
-//! `#[path = "include/imjarlet.rs"] mod imjarlet;` and links by `-L target/staticlib -l static=head`.
+//! `#[path = "include/imjarlet.rs"] mod imjarlet;` and links by `-L target/staticlib -l static=imjarlet`.
 //! It needs nothing but `core`. Bytes are hexadecimal in the comments (01 04); numbers are decimal.
 #![allow(dead_code)]
 

@@ -1,4 +1,4 @@
-// Compares libdlpc200_port.a with the model: every answer, every byte of the output and every field
+// Compares libdlpc200.a with the model: every answer, every byte of the output and every field
 // of the device, on the document's packets and on seeded streams, cut anywhere, and devices of any
 // field values. Fails if a fault, a refusal or a command was never met, or if a fault that is planted
 // in the model is not found.
