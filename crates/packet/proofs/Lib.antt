@@ -5,5 +5,4 @@ pub use Rattle.packet.proofs.bytes.Laws as BytesLaws
 pub use Rattle.packet.proofs.number.Laws as NumberLaws
 pub use Rattle.packet.proofs.stream.Laws as StreamLaws
 pub use Rattle.packet.proofs.receiver.Laws as ReceiverLaws
-pub use Rattle.packet.proofs.receiver.Lent as ReceiverLent
 pub use Rattle.packet.proofs.writer.Laws as WriterLaws

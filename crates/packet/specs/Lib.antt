@@ -5,4 +5,3 @@ pub mod Stream
 pub mod Receiver
 pub mod Writer
 pub mod Calls
-pub mod Inner

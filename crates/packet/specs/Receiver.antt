@@ -2,14 +2,14 @@
 -- A receiver of any field values is answered. One that has all bytes of its packet already takes the next byte for the checksum;
 -- a sum that fits no bytes is continued as it stands.
 use Prim.Native.Nat.{ℕ, _+_, _-_, _%_, max}
-use mathlib.Core.Bool.{true, false, cond}
+use mathlib.Core.Bool.{Bool, true, false, cond}
 use mathlib.Core.List.{List}
 use lib.Dec.{eqb, ltb}
 use lib.ListN.{length, getD, take, drop, replicate}
 use lib.Seq.{sets}
 use Rattle.packet.specs.Packet.{payloadLength, sum}
 use Rattle.packet.specs.declared.receiver.Receiver.{Receiver}
-use Rattle.packet.specs.declared.receiver.Received.{Received}
+use Rattle.packet.specs.declared.receiver.Taken.{Taken}
 
 -- the hold as it is made: 1,024 zeros
 unfoldable pub zeros : List ℕ
@@ -38,6 +38,13 @@ between r = record { header = r .header; sum = 0; received = 0; hold = r .hold }
 unfoldable pub missing : Receiver → List ℕ → ℕ
 missing r b = max 1 (7 + payloadLength (sets (r .header) (r .received) b) - r .received)
 
+-- what a call took, and the receiver afterwards; `right` is whether the checksum was, once a packet is complete
+pub record Received : Type 0 where
+  pub taken : ℕ
+  pub complete : Bool
+  pub right : Bool
+  pub receiver : Receiver
+
 -- the input ends before the packet does: all of it is taken
 unfoldable pub waiting : Receiver → ℕ → List ℕ → Received
 waiting r held b = record { taken = length b; complete = false; right = false; receiver = with r held b }
@@ -55,3 +62,12 @@ completed r held b n =
 -- one call: it takes bytes until the input ends or one packet is complete
 unfoldable pub receiving : Receiver → ℕ → List ℕ → Received
 receiving r held b = cond (ltb (length b) (missing r b)) (waiting r held b) (completed r held b (missing r b))
+
+-- Where header and hold are lent: the receiver of some parts, and what an answer says with header and hold as they are left.
+
+abbrev pub receiverOf : List ℕ → ℕ → ℕ → List ℕ → Receiver
+receiverOf header sum received hold = record { header = header; sum = sum; received = received; hold = hold }
+
+abbrev pub receivedOf : Taken → List ℕ → List ℕ → Received
+receivedOf t header hold =
+    record { taken = t .taken; complete = t .complete; right = t .right; receiver = receiverOf header (t .sum) (t .received) hold }

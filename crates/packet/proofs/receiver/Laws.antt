@@ -11,10 +11,9 @@ use borrow.Author.Tests.{le-ltb, lt-ltb, ltb-true, ltb-false}
 use lib.ListN.{length, getD, drop, take, set, length-append, length-drop, drop-of-length-le, List·getD-append}
 use lib.Seq.{sets, length-sets, set-out, drop-cons, drop-nil, take-append-add, take-append-le, drop-append-add, drop-append-le, getD-append-add, getD-take, take-take, take-add, drop-at, length-take-le}
 use Rattle.packet.specs.declared.receiver.Receiver.{Receiver}
-use Rattle.packet.specs.declared.receiver.Received.{Received}
 use Rattle.packet.specs.Packet.{payloadLength, payload, sum, checksum, rightSum}
 use Rattle.packet.specs.Stream.{size, hasPacket}
-use Rattle.packet.specs.Receiver.{with, between, missing, waiting, completed, receiving}
+use Rattle.packet.specs.Receiver.{Received, with, between, missing, waiting, completed, receiving}
 use Rattle.packet.proofs.Cases.{bool-cases}
 use Rattle.packet.proofs.stream.Laws.{IsPacket, has-packet}
 use Rattle.packet.proofs.bytes.Laws.{sets-append, sets-past, sets-whole, sum-append}

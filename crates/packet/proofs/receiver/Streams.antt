@@ -10,10 +10,9 @@ use lib.Dec.{ltb}
 use lib.ListN.{length, take, drop, length-append}
 use lib.Seq.{drop-at}
 use Rattle.packet.specs.declared.receiver.Receiver.{Receiver}
-use Rattle.packet.specs.declared.receiver.Received.{Received}
 use Rattle.packet.specs.Packet.{rightSum}
 use Rattle.packet.specs.Stream.{hasPacket, packets, rest}
-use Rattle.packet.specs.Receiver.{with, missing, waiting, completed, receiving}
+use Rattle.packet.specs.Receiver.{Received, with, missing, waiting, completed, receiving}
 use Rattle.packet.specs.Calls.{Call, Served, andThen, callsOn, servedOne, served, joined}
 use Rattle.packet.proofs.Cases.{bool-cases}
 use Rattle.packet.proofs.stream.Laws.{IsPacket, packets-cons, rest-cons, packets-none, rest-none, packet-induction}

@@ -6,10 +6,10 @@ use native.Mathlib.Omega.{arith}
 use denote.Ref.{now}
 use lib.ListN.{length, take, drop, length-drop}
 use lib.Seq.{take-all}
-use Rattle.packet.proofs.receiver.Lent.{payload-kept}
+use Rattle.packet.proofs.receiver.Steps.{payload-kept}
 use borrow.Author.Needs.{needs}
-use Rattle.packet.proofs.bytes.keep.Statement.{statement}
-use Rattle.packet.proofs.bytes.keep.Tie as tie
+use Rattle.packet.proofs.receiver.keep.Statement.{statement}
+use Rattle.packet.proofs.receiver.keep.Tie as tie
 
 -- a part that goes to the end
 part-whole : (n : ℕ) (b : List ℕ) → take (length b - n) (drop n b) ≡ drop n b
