@@ -4,53 +4,29 @@ use mathlib.Core.List.{List}
 use mathlib.Core.Bool.{true, false}
 use Prim.Native.Nat.{ℕ, _+_, _-_, _%_, _<_, _≤_, min}
 use native.Mathlib.Omega.{arith}
-use lib.Dec.{eqb, leb}
-use borrow.Author.Tests.{leb-true, leb-false}
+use lib.Dec.{eqb}
 use lib.ListN.{length, getD, drop, take, take-append-drop, drop-of-length-le}
 use lib.Seq.{sets, take-all, length-take-le}
 use Rattle.packet.specs.declared.receiver.Receiver.{Receiver}
 use Rattle.packet.specs.Packet.{payloadLength, sum}
 use Rattle.packet.specs.Receiver.{with, missing, waiting, completed, receiving, receivedOf}
-use Rattle.packet.proofs.Cases.{bool-cases}
+use Rattle.packet.proofs.Cases.{lt-cases}
 use Rattle.packet.proofs.bytes.Laws.{sets-past}
 use Rattle.packet.proofs.receiver.Laws.{header-stays, waits, completes}
 
--- A count that is cut at the end of a list takes and drops the same.
-
-take-min : (n : ℕ) (b : List ℕ) → take (min n (length b)) b ≡ take n b
-take-min n b =
-    bool-cases (leb (length b) n)
-    (λ e.
-    let l : length b ≤ n = leb-true (length b) n e in
-    let m : min n (length b) ≡ length b = omega arith in
-    rw m (take-all (length b) b (omega arith) ∙ sym (take-all n b l)))
-    (λ e.
-    let l : n < length b = leb-false (length b) n e in
-    let m : min n (length b) ≡ n = omega arith in
-    ap (λ (k : ℕ). take k b) m)
-
+-- a count that is cut at the end of a list drops the same
 drop-min : (n : ℕ) (b : List ℕ) → drop (min n (length b)) b ≡ drop n b
 drop-min n b =
-    bool-cases (leb (length b) n)
-    (λ e.
-    let l : length b ≤ n = leb-true (length b) n e in
-    drop-of-length-le b {i = min n (length b)} (omega arith) ∙ sym (drop-of-length-le b {i = n} l))
-    (λ e.
-    let l : n < length b = leb-false (length b) n e in
-    let m : min n (length b) ≡ n = omega arith in
-    ap (λ (k : ℕ). drop k b) m)
+    lt-cases n (length b)
+    (λ l. let m : min n (length b) ≡ n = omega arith in ap (λ (k : ℕ). drop k b) m)
+    (λ l. drop-of-length-le b {i = min n (length b)} (omega arith) ∙ sym (drop-of-length-le b {i = n} l))
 
 -- places past the end of the hold are all one
 place-min : (hold xs : List ℕ) (m n : ℕ) → length hold ≡ 1024 → sets hold (min m 1024 + min n 1024) xs ≡ sets hold (m + n) xs
 place-min hold xs m n h =
-    bool-cases (leb (m + n) 1024)
-    (λ e.
-    let l : m + n ≤ 1024 = leb-true (m + n) 1024 e in
-    let k : min m 1024 + min n 1024 ≡ m + n = omega arith in
-    ap (λ (i : ℕ). sets hold i xs) k)
-    (λ e.
-    let l : 1024 < m + n = leb-false (m + n) 1024 e in
-    sets-past xs hold (min m 1024 + min n 1024) (omega (arith, h)) ∙ sym (sets-past xs hold (m + n) (omega (arith, h))))
+    lt-cases 1024 (m + n)
+    (λ l. sets-past xs hold (min m 1024 + min n 1024) (omega (arith, h)) ∙ sym (sets-past xs hold (m + n) (omega (arith, h))))
+    (λ l. let k : min m 1024 + min n 1024 ≡ m + n = omega arith in ap (λ (i : ℕ). sets hold i xs) k)
 
 -- the payload among some bytes, stored after what is held
 pub payload-kept : (hold b : List ℕ) (held g : ℕ) → length hold ≡ 1024

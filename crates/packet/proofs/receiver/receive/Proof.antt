@@ -6,7 +6,6 @@ use denote.Ref.{now}
 use lib.ListN.{length}
 use lib.Seq.{length-take-le}
 use Rattle.packet.specs.declared.receiver.Receiver.{Receiver}
-use Rattle.packet.specs.Packet.{payloadLength}
 use Rattle.packet.specs.Receiver.{receiverOf}
 use Rattle.packet.proofs.receiver.Steps.{waits-so, completes-so}
 use borrow.Author.Needs.{needs}

@@ -9,9 +9,6 @@ use borrow.Author.Needs.{needs}
 use Rattle.packet.proofs.writer.seal.Statement.{statement}
 use Rattle.packet.proofs.writer.seal.Tie as tie
 
-slice-aggregate-sum-with : tie.Need-slice-aggregate-sum-with
-slice-aggregate-sum-with c = let a = c .before .before .args in sym (length-take-le (a .n) (now (a .out)) (omega arith))
-
 returns : tie.Need-returns
 unfolding checksum
 returns c = rw (c .sum-with .ensures, zero-add)
@@ -21,7 +18,7 @@ seal-spec =
     tie.close
     (tie.spec
     (λ c. search needs)
-    slice-aggregate-sum-with
+    (λ c. let a = c .before .before .args in sym (length-take-le (a .n) (now (a .out)) (omega arith)))
     (λ c κs. search needs)
     (λ c. search needs)
     (λ c. search needs)
