@@ -1,11 +1,11 @@
--- The steps of the code's call: counts that are cut at the end of a list, and what is put together from them.
+-- What the code of the receiver puts together from its steps is what the definitions say.
 use mathlib.Core.Path.{_≡_, sym, ap, _∙_}
 use mathlib.Core.List.{List}
 use mathlib.Core.Bool.{true, false}
 use Prim.Native.Nat.{ℕ, _+_, _-_, _%_, _<_, _≤_, min}
 use native.Mathlib.Omega.{arith}
 use lib.Dec.{eqb}
-use lib.ListN.{length, getD, drop, take, take-append-drop, drop-of-length-le}
+use lib.ListN.{length, getD, drop, take, take-append-drop, length-drop, drop-of-length-le}
 use lib.Seq.{sets, take-all, length-take-le}
 use Rattle.packet.specs.declared.receiver.Receiver.{Receiver}
 use Rattle.packet.specs.Packet.{payloadLength, sum}
@@ -14,26 +14,33 @@ use Rattle.packet.proofs.Cases.{lt-cases}
 use Rattle.packet.proofs.bytes.Laws.{sets-past}
 use Rattle.packet.proofs.receiver.Laws.{header-stays, waits, completes}
 
--- a count that is cut at the end of a list drops the same
-drop-min : (n : ℕ) (b : List ℕ) → drop (min n (length b)) b ≡ drop n b
-drop-min n b =
-    lt-cases n (length b)
-    (λ l. let m : min n (length b) ≡ n = omega arith in ap (λ (k : ℕ). drop k b) m)
-    (λ l. drop-of-length-le b {i = min n (length b)} (omega arith) ∙ sym (drop-of-length-le b {i = n} l))
+-- What `keep` puts together: n, how many of the bytes b are of the header; and the place at in the hold.
+module _
+    (hold b : List ℕ)
+    (held received : ℕ)
+    {n at : ℕ}
+    (k : length hold ≡ 1024)
+    (en : n ≡ min (6 - received) (length b))
+    (ea : at ≡ min held 1024 + min (received - 6) 1024) where
+  -- a count that is cut at the end of the bytes drops the same
+  dropped : take (length b - n) (drop n b) ≡ drop (6 - received) b
+  dropped =
+      take-all (length b - n) (drop n b) (omega (arith, length-drop n b))
+      ∙ lt-cases (6 - received) (length b)
+      (λ l. let e : n ≡ 6 - received = omega (arith, en) in ap (λ (i : ℕ). drop i b) e)
+      (λ l. drop-of-length-le b {i = n} (omega (arith, en)) ∙ sym (drop-of-length-le b {i = 6 - received} l))
 
--- places past the end of the hold are all one
-place-min : (hold xs : List ℕ) (m n : ℕ) → length hold ≡ 1024 → sets hold (min m 1024 + min n 1024) xs ≡ sets hold (m + n) xs
-place-min hold xs m n h =
-    lt-cases 1024 (m + n)
-    (λ l. sets-past xs hold (min m 1024 + min n 1024) (omega (arith, h)) ∙ sym (sets-past xs hold (m + n) (omega (arith, h))))
-    (λ l. let k : min m 1024 + min n 1024 ≡ m + n = omega arith in ap (λ (i : ℕ). sets hold i xs) k)
+  -- places past the end of the hold are all one
+  placed : (xs : List ℕ) → sets hold at xs ≡ sets hold (held + (received - 6)) xs
+  placed xs =
+      lt-cases 1024 (held + (received - 6))
+      (λ l. sets-past xs hold at (omega (arith, k, ea)) ∙ sym (sets-past xs hold (held + (received - 6)) (omega (arith, k))))
+      (λ l. let e : at ≡ held + (received - 6) = omega (arith, ea) in ap (λ (i : ℕ). sets hold i xs) e)
 
--- the payload among some bytes, stored after what is held
-pub payload-kept : (hold b : List ℕ) (held g : ℕ) → length hold ≡ 1024
-    → sets hold (min held 1024 + min (g - 6) 1024) (drop (min (6 - g) (length b)) b) ≡ sets hold (held + (g - 6)) (drop (6 - g) b)
-payload-kept hold b held g h = place-min hold (drop (min (6 - g) (length b)) b) held (g - 6) h ∙ ap (sets hold (held + (g - 6))) (drop-min (6 - g) b)
+  pub payload-kept : sets hold at (take (length b - n) (drop n b)) ≡ sets hold (held + (received - 6)) (drop (6 - received) b)
+  payload-kept = rw dropped (placed (drop (6 - received) b))
 
--- What the code's call puts together: the header h with the input's bytes; m, how many bytes come before the checksum; n, how many of these the input has;
+-- What `receive` puts together: the header h with the input's bytes; m, how many bytes come before the checksum; n, how many of these the input has;
 -- their sum s; and the hold d with the payload among them.
 module _
     (r : Receiver)

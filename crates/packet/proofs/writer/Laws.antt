@@ -110,21 +110,15 @@ module _ (type cmd1 cmd2 flags : ℕ) (d : List ℕ) (h : length d ≤ 65535) wh
 tail-split : (q : List ℕ) (m : ℕ) → length q ≡ m + 1 → q ≡ take m q ++ (getD q m 0 ∷ [])
 tail-split q m e = sym (take-all (suc m) q (omega arith)) ∙ take-suc q m 0 (omega arith)
 
-low-byte : (a b : ℕ) → a < 256 → (a + 256 * b) % 256 ≡ a
-low-byte a b h = omega arith
-
-high-part : (a b : ℕ) → a < 256 → (a + 256 * b) / 256 ≡ b
-high-part a b h = omega arith
-
 remade : (a0 a1 a2 a3 a4 a5 : ℕ) (q : List ℕ) → a4 < 256 → a5 < 256 → length q ≡ a4 + 256 * a5 + 1
     → rightSum (a0 ∷ a1 ∷ a2 ∷ a3 ∷ a4 ∷ a5 ∷ q) ≡ true
     → packetOf a0 a1 a2 a3 (payload (a0 ∷ a1 ∷ a2 ∷ a3 ∷ a4 ∷ a5 ∷ q)) ≡ a0 ∷ a1 ∷ a2 ∷ a3 ∷ a4 ∷ a5 ∷ q
 unfolding packetOf sealed bytesOf payload rightSum
 remade a0 a1 a2 a3 a4 a5 q h4 h5 l r =
-    let m : ℕ = a4 + 256 * a5 in
     let lt : length (take (a4 + 256 * a5) q) ≡ a4 + 256 * a5 = length-take-le (a4 + 256 * a5) q (omega arith) in
-    let e4 : (a4 + 256 * a5) % 256 ≡ a4 = low-byte a4 a5 h4 in
-    let e5 : (a4 + 256 * a5) / 256 % 256 ≡ a5 = ap (λ (n : ℕ). n % 256) (high-part a4 a5 h4) ∙ mod-eq-of-lt h5 in
+    let e4 : (a4 + 256 * a5) % 256 ≡ a4 = omega arith in
+    let q5 : (a4 + 256 * a5) / 256 ≡ a5 = omega arith in
+    let e5 : (a4 + 256 * a5) / 256 % 256 ≡ a5 = rw q5 (mod-eq-of-lt h5) in
     let k : 6 + (a4 + 256 * a5) ≡ suc (suc (suc (suc (suc (suc (a4 + 256 * a5)))))) = omega arith in
     let c : getD q (a4 + 256 * a5) 0 ≡ checksum (a0 ∷ a1 ∷ a2 ∷ a3 ∷ a4 ∷ a5 ∷ take (a4 + 256 * a5) q) = eqb-true _ _ (rw k at r) in
     rw (lt, e4, e5, ← c) (ap {B = List ℕ} (λ t. a0 ∷ a1 ∷ a2 ∷ a3 ∷ a4 ∷ a5 ∷ t) (sym (tail-split q (a4 + 256 * a5) l)))
