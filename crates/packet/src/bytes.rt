@@ -14,6 +14,7 @@ pub(crate) fn less(a: usize, b: usize) -> usize
     a - b
 }
 
+// The lesser of a and b.
 pub(crate) fn least(a: usize, b: usize) -> usize
     ensures { λ r. ⌜ r ≡ min a b ⌝ }
 {

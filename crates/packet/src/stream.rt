@@ -11,7 +11,7 @@ pub enum Next {
     Nothing,
 }
 
-// The packet that starts at `at`. Past the end of b there is nothing.
+// The packet that starts at `at`; past the end of b there is none.
 pub fn next_packet(b: &[u8], at: usize) -> Next
     ensures { λ r. ⌜ r ≡ nextIn (drop at (now (b .entry))) ⌝ }
 {

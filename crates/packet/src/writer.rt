@@ -11,14 +11,14 @@ ghost use lib.Seq.{sets};
 ghost use Rattle.packet.specs.Packet.{header, checksum};
 ghost use Rattle.packet.specs.Writer.{answerTo, outputAfter};
 
-// What the call answers: how many bytes were written, or that the packet does not go into the
-// buffer or the data into a packet.
+// How many bytes were written; or that the packet does not go into the buffer, or the data into a
+// packet.
 pub enum Written {
     Length(usize),
     NoRoom,
 }
 
-// The six header bytes.
+// The header, the payload having n bytes.
 fn put_header(out: &mut [u8], kind: u8, cmd1: u8, cmd2: u8, flags: u8, n: usize)
     requires { ⌜ 6 ≤ length (now out) ⌝ }
     ensures { λ _. ⌜ now (out .exit) ≡ sets (now (out .entry)) 0 (header kind cmd1 cmd2 flags n) ⌝ }
@@ -31,7 +31,7 @@ fn put_header(out: &mut [u8], kind: u8, cmd1: u8, cmd2: u8, flags: u8, n: usize)
     out[5] = (n / 256 % 256) as u8;
 }
 
-// The checksum of the first n bytes, after them.
+// Puts the checksum of the first n bytes after them.
 fn seal(out: &mut [u8], n: usize)
     requires { ⌜ n < length (now out) ⌝ }
     ensures { λ _. ⌜ now (out .exit) ≡ set (now (out .entry)) n (checksum (take n (now (out .entry)))) ⌝ }
@@ -40,7 +40,8 @@ fn seal(out: &mut [u8], n: usize)
     out[n] = sum;
 }
 
-// Writes the packet of these fields and data to the start of out; the rest of out stays.
+// Writes the packet of these fields and data to the start of out. The rest of out stays; all of it
+// where there is no room.
 pub fn write_packet(
     out: &mut [u8],
     kind: u8,

@@ -1,6 +1,6 @@
 -- `receive` meets its contract.
-use Prim.Native.Nat.{ℕ, _+_, _-_}
-use mathlib.Core.Path.{_≡_, sym, ap, _∙_}
+use Prim.Native.Nat.{_-_}
+use mathlib.Core.Path.{_≡_, sym}
 use native.Mathlib.Omega.{arith}
 use denote.Ref.{now}
 use lib.ListN.{length}
@@ -19,12 +19,6 @@ came s = receiverOf (now (s .args .header)) (s .args .sum) (s .args .received) (
 six : (h : tie.After-store-arg) → length (now (h .before .before .args .header)) ≡ 6
 six h = search needs
 
-slice-aggregate-b : tie.Need-slice-aggregate-b
-slice-aggregate-b c =
-    let k = c .before in
-    let s = k .before .before .before .before .before .before .before .before in
-    sym (length-take-le (k .least .result) (now (s .args .input)) (omega (arith, k .least .ensures)))
-
 returns : tie.Need-returns
 returns c =
     let k = c .before in
@@ -33,8 +27,7 @@ returns c =
     let m = n .before in
     let h = m .before .before .before .before in
     let s = h .before .before .before in
-    waits-so (came s) (s .args .held) (now (s .args .input)) (six (h .before)) (h .store .ensures)
-    (m .less .ensures ∙ ap (λ (x : ℕ). 6 + x - s .args .received) (m .before .word .ensures .0))
+    waits-so (came s) (s .args .held) (now (s .args .input)) (six (h .before)) (h .store .ensures) (cc (m .before .word .ensures .0))
     (n .least .ensures) (w .sum-with .ensures) (k .keep .ensures) (c .if1 .taken)
 
 returns-2 : tie.Need-returns-2
@@ -45,8 +38,7 @@ returns-2 c =
     let m = n .before in
     let h = m .before .before .before .before in
     let s = h .before .before .before in
-    completes-so (came s) (s .args .held) (now (s .args .input)) (six (h .before)) (h .store .ensures)
-    (m .less .ensures ∙ ap (λ (x : ℕ). 6 + x - s .args .received) (m .before .word .ensures .0))
+    completes-so (came s) (s .args .held) (now (s .args .input)) (six (h .before)) (h .store .ensures) (cc (m .before .word .ensures .0))
     (n .least .ensures) (w .sum-with .ensures) (k .keep .ensures) (c .before .if1 .left)
 
 pub receive-spec : {M : Type 1} → statement M
@@ -60,7 +52,10 @@ receive-spec =
     (λ c. search needs)
     (λ c κs. search needs)
     (λ c κs. search needs)
-    slice-aggregate-b
+    (λ c.
+    let k = c .before in
+    let s = k .before .before .before .before .before .before .before .before in
+    sym (length-take-le (k .least .result) (now (s .args .input)) (omega (arith, k .least .ensures))))
     (λ c κs. search needs)
     (λ c κs. search needs)
     (λ c. search needs)
