@@ -1,4 +1,4 @@
--- The laws of packet.
+-- The laws of packet that the crates above cite.
 pub mod Cases
 pub mod Calls
 pub use Rattle.packet.proofs.bytes.Laws as BytesLaws

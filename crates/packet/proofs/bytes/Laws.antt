@@ -9,7 +9,7 @@ use lib.ListN.{length, getD, take, drop, set, take-append-drop, drop-of-length-l
 use lib.Seq.{sets, sets-eq, length-sets, set-out, length-take-le, drop-cons}
 use Rattle.packet.specs.Packet.{sum}
 
--- a run of stores behind another is one run
+-- a run of stores after another is one run
 pub sets-append : (xs ys l : List ℕ) (i : ℕ) → sets (sets l i xs) (i + length xs) ys ≡ sets l i (xs ++ ys)
 sets-append [] ys l i = rw (add-zero i)
 sets-append (x ∷ xs) ys l i =

@@ -87,7 +87,7 @@ pub missing-least : (r : Receiver) (b : List ℕ) → 1 ≤ missing r b
 unfolding missing
 missing-least r b = omega arith
 
--- what is missing after a is missing with b behind a, less a
+-- what is missing after a is missing with b after it, less a
 missing-append : (r : Receiver) (held : ℕ) (a b : List ℕ) → length (r .header) ≡ 6 → length a < missing r a
     → missing r (a ++ b) ≡ length a + missing (with r held a) b
 unfolding missing with
@@ -150,7 +150,7 @@ completed-behind : (r : Receiver) (held : ℕ) (a b : List ℕ) (n : ℕ) → n 
 unfolding completed
 completed-behind r held a b n h = rw (take-append-le (n - 1) a b (omega arith), List·getD-append a b 0 (n - 1) h)
 
--- a packet that is complete within a is not changed by what stands behind a
+-- a packet that is complete within a is not changed by what follows a
 pub behind : (r : Receiver) (held : ℕ) (a b : List ℕ) → length (r .header) ≡ 6 → missing r a ≤ length a
     → receiving r held (a ++ b) ≡ receiving r held a
 behind r held a b h l =
@@ -245,8 +245,9 @@ unfolding with checksum
 with-boundary r held b k l =
     rw (k .received, k .sum, header-boundary r b k l, add-zero held, zero-add (length b), zero-add (sum b))
 
-payload-behind : (p : List ℕ) (m : ℕ) → 6 + m ≤ length p → drop 6 (take (6 + m) p) ≡ take m (drop 6 p)
-payload-behind p m h = rw (take-add 6 m p) (drop-at (take 6 p) (take m (drop 6 p)) 6 (length-take-le 6 p (omega arith)))
+-- the payload among the bytes before the checksum
+payload-part : (p : List ℕ) (m : ℕ) → 6 + m ≤ length p → drop 6 (take (6 + m) p) ≡ take m (drop 6 p)
+payload-part p m h = rw (take-add 6 m p) (drop-at (take 6 p) (take m (drop 6 p)) 6 (length-take-le 6 p (omega arith)))
 
 -- exactly the bytes of one whole packet complete it, at its last byte
 abbrev pub one : Receiver → ℕ → List ℕ → Received
@@ -260,9 +261,9 @@ completed-whole r held p k e =
     let w = with-boundary r held (take (6 + payloadLength p) p) k (omega arith) in
     received-eq e
     (rw (n, w))
-    (rw (n, w, take-take 6 (6 + payloadLength p) p (omega arith), payload-behind p (payloadLength p) (omega arith)))
+    (rw (n, w, take-take 6 (6 + payloadLength p) p (omega arith), payload-part p (payloadLength p) (omega arith)))
 
--- From between two packets: a packet and anything behind it.
+-- From between two packets: a packet and anything after it.
 module _ (r : Receiver) (held : ℕ) (k : Between r) where
   missing-whole : (p : List ℕ) → IsPacket p → missing r p ≡ length p
   missing-whole p i = missing-boundary r p k (omega (arith, i .least)) ∙ i .exact

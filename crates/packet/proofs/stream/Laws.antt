@@ -54,7 +54,7 @@ packet-front p b h =
     let l : length (p ++ b) ≡ length p + length b = length-append p b in
     has-packet (p ++ b) (omega (arith, h .least)) (omega arith)
 
--- what is left behind the packet is shorter
+-- what is left after the packet is shorter
 shorter : (b : List ℕ) (n : ℕ) → hasPacket b ≡ true → length b ≤ suc n → length (drop (size b) b) ≤ n
 shorter b n h l = simp length-drop (omega (arith, size-within b h, seven b))
 
@@ -117,7 +117,7 @@ packet-induction P none more b = go (length b) b (omega arith)
         (λ e. subst P (take-append-drop (size b) b) (more (take (size b) b) (drop (size b) b) (first-packet b e) (next e)))
         (λ e. none b e)
 
--- joined streams: the packets of the first, then those of what it left with the second behind it
+-- joined streams: the packets of the first, then those of what it left with the second after it
 pub packets-joined : (a b : List ℕ) → packets (a ++ b) ≡ packets a ++ packets (rest a ++ b)
 packets-joined a b =
     packet-induction (λ x. packets (x ++ b) ≡ packets x ++ packets (rest x ++ b))

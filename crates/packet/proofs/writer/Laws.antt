@@ -42,10 +42,10 @@ sealed-front xs l h =
     let j : sets (sets l 0 xs) (length xs) (checksum xs ∷ []) ≡ sets l 0 (xs ++ (checksum xs ∷ [])) = rw zero-add at (sets-append xs (checksum xs ∷ []) l 0) in
     rw t (j ∙ sets-front (xs ++ (checksum xs ∷ [])) l (omega arith))
 
--- bytes written behind others
-pub written-behind : (a b out : List ℕ) → a ++ written b (drop (length a) out) ≡ written (a ++ b) out
+-- bytes written after others
+pub written-after : (a b out : List ℕ) → a ++ written b (drop (length a) out) ≡ written (a ++ b) out
 unfolding written
-written-behind a b out = rw (drop-drop (length b) (length a) out, length-append a b) (sym (append-assoc a b (drop (length a + length b) out)))
+written-after a b out = rw (drop-drop (length b) (length a) out, length-append a b) (sym (append-assoc a b (drop (length a + length b) out)))
 
 pub written-none : (out : List ℕ) → written [] out ≡ out
 unfolding written
@@ -55,7 +55,7 @@ pub length-written-to : (b out : List ℕ) → length b ≤ length out → lengt
 unfolding written
 length-written-to b out h = rw (length-append b (drop (length b) out), length-drop (length b) out) (omega arith)
 
--- b written to the part of a buffer that lies behind a, which was written at its start: the part lent, and put back
+-- b written to the part of a buffer after a, which was written at its start: the part lent, and put back
 pub written-part : (a b out : List ℕ) → length a ≤ length out
     → putMid (length a) (length (written a out) - length a) (written a out) (written b (take (length (written a out) - length a) (drop (length a) (written a out)))) ≡ written (a ++ b) out
 written-part a b out h =
@@ -66,7 +66,7 @@ written-part a b out h =
     let d : drop (length a) (written a out) ≡ drop (length a) out = unfold written in drop-at a (drop (length a) out) (length a) refl in
     let w : take (length out - length a) (drop (length a) out) ≡ drop (length a) out = take-all (length out - length a) (drop (length a) out) (omega arith) in
     let z : drop (length out - length a) (drop (length a) out) ≡ [] = drop-of-length-le (drop (length a) out) {i = length out - length a} (omega arith) in
-    rw (n, t, d, w, z, append-nil (written b (drop (length a) out))) (written-behind a b out)
+    rw (n, t, d, w, z, append-nil (written b (drop (length a) out))) (written-after a b out)
 
 -- The packet of given fields and data.
 module _ (type cmd1 cmd2 flags : ℕ) (d : List ℕ) (h : length d ≤ 65535) where
