@@ -83,20 +83,20 @@ pub fn receive(
     let b = &input[..n];
     let total = sum_with(sum, b);
     keep(hold, held, received, b);
-    if input.len() <= before {
+    if before < input.len() {
         return Taken {
-            taken: n,
-            complete: false,
-            right: false,
-            sum: total,
-            received: received + n,
+            taken: before + 1,
+            complete: true,
+            right: input[before] == total,
+            sum: 0,
+            received: 0,
         };
     }
     Taken {
-        taken: before + 1,
-        complete: true,
-        right: input[before] == total,
-        sum: 0,
-        received: 0,
+        taken: n,
+        complete: false,
+        right: false,
+        sum: total,
+        received: received + n,
     }
 }

@@ -1,5 +1,4 @@
 -- `receive` meets its contract.
-use Prim.Native.Nat.{_-_}
 use mathlib.Core.Path.{_≡_, sym}
 use native.Mathlib.Omega.{arith}
 use denote.Ref.{now}
@@ -7,7 +6,7 @@ use lib.ListN.{length}
 use lib.Seq.{length-take-le}
 use Rattle.packet.specs.declared.receiver.Receiver.{Receiver}
 use Rattle.packet.specs.Receiver.{receiverOf}
-use Rattle.packet.proofs.receiver.Steps.{waits-so, completes-so}
+use Rattle.packet.proofs.receiver.Steps.{completes-so, waits-so}
 use borrow.Author.Needs.{needs}
 use Rattle.packet.proofs.receiver.receive.Statement.{statement}
 use Rattle.packet.proofs.receiver.receive.Tie as tie
@@ -21,17 +20,6 @@ six h = search needs
 
 returns : tie.Need-returns
 returns c =
-    let k = c .before in
-    let w = k .before .before in
-    let n = w .before .before in
-    let m = n .before in
-    let h = m .before .before .before .before in
-    let s = h .before .before .before in
-    waits-so (came s) (s .args .held) (now (s .args .input)) (six (h .before)) (h .store .ensures) (cc (m .before .word .ensures .0))
-    (n .least .ensures) (w .sum-with .ensures) (k .keep .ensures) (c .if1 .taken)
-
-returns-2 : tie.Need-returns-2
-returns-2 c =
     let k = c .before .before in
     let w = k .before .before in
     let n = w .before .before in
@@ -39,7 +27,18 @@ returns-2 c =
     let h = m .before .before .before .before in
     let s = h .before .before .before in
     completes-so (came s) (s .args .held) (now (s .args .input)) (six (h .before)) (h .store .ensures) (cc (m .before .word .ensures .0))
-    (n .least .ensures) (w .sum-with .ensures) (k .keep .ensures) (c .before .if1 .left)
+    (n .least .ensures) (w .sum-with .ensures) (k .keep .ensures) (c .before .if1 .taken)
+
+returns-2 : tie.Need-returns-2
+returns-2 c =
+    let k = c .before in
+    let w = k .before .before in
+    let n = w .before .before in
+    let m = n .before in
+    let h = m .before .before .before .before in
+    let s = h .before .before .before in
+    waits-so (came s) (s .args .held) (now (s .args .input)) (six (h .before)) (h .store .ensures) (cc (m .before .word .ensures .0))
+    (n .least .ensures) (w .sum-with .ensures) (k .keep .ensures) (c .if1 .left)
 
 pub receive-spec : {M : Type 1} → statement M
 receive-spec =
@@ -59,7 +58,7 @@ receive-spec =
     (λ c κs. search needs)
     (λ c κs. search needs)
     (λ c. search needs)
-    returns
     (λ c. search needs)
+    returns
     (λ c. search needs)
     returns-2)
