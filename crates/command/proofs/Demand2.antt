@@ -27,11 +27,10 @@ use Rattle.command.proofs.encoder.Laws.{plain, arrived-plain, next-writ
 use mathlib.Core.Option.{some}
 use lib.Seq.{sets, sets-eq, length-sets, take-set-le, getD-take, take-at, drop-at, length-take-le}
 use Rattle.packet.specs.Stream.{size, hasPacket, packets, rest}
-use Rattle.packet.specs.Receiver.{with, waiting as receiverWaiting}
+use Rattle.packet.specs.Receiver.{Received, with, waiting as receiverWaiting}
 use Rattle.packet.specs.Writer.{written}
 use Rattle.packet.specs.Calls.{Served, andThen, callsOn, servedOne}
 use Rattle.packet.specs.declared.receiver.Receiver.{Receiver}
-use Rattle.packet.specs.declared.receiver.Received.{Received}
 use Rattle.packet.proofs.StreamLaws.{IsPacket, packets-cons, rest-cons, packets-none, rest-none, packet-induction, packets-nil}
 use Rattle.packet.proofs.ReceiverLaws.{Between, between-packet, one, first-of, too-few}
 use Rattle.packet.proofs.Calls.{same-calls}

@@ -7,8 +7,6 @@ use crate::controller::in_rule;
 use crate::judgement::judge;
 use crate::response::respond;
 use packet::Receiver;
-use packet::put_header;
-use packet::take;
 ghost use mathlib.Core.Path.{_≡_};
 ghost use mathlib.Core.Bool.{true};
 ghost use Prim.Native.Nat.{_≤_};
@@ -73,8 +71,8 @@ fn advance(mut p: Parts, hold: &mut [u8; 1024], input: &[u8], out: &mut [u8]) ->
         × (now (out .exit) ≡ receiveCall (controllerOf p (now (hold .entry))) (now (input .entry)) (now (out .entry)) .output) ⌝ }
 {
     let mut header = p.header;
-    put_header(&mut header, p.received, input);
-    let t = take(header, p.sum, p.received, hold, p.transfer.held(), input);
+    let held = p.transfer.held();
+    let t = packet::receive(&mut header, p.sum, p.received, hold, held, input);
     p.header = header;
     p.sum = t.sum;
     p.received = t.received;

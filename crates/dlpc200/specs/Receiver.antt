@@ -5,9 +5,8 @@ use mathlib.Core.List.{List}
 use lib.Dec.{eqb}
 use lib.ListN.{getD, take, drop, replicate}
 use Rattle.packet.specs.Packet.{sum}
-use Rattle.packet.specs.Receiver.{with as packetWith, receiving as packetReceiving}
+use Rattle.packet.specs.Receiver.{Received as PacketReceived, with as packetWith, receiving as packetReceiving}
 use Rattle.packet.specs.declared.receiver.Receiver.{Receiver as PacketReceiver}
-use Rattle.packet.specs.declared.receiver.Received.{Received as PacketReceived}
 use Rattle.dlpc200.specs.declared.receiver.Receiver.{Receiver}
 use Rattle.dlpc200.specs.declared.receiver.Received.{Received}
 

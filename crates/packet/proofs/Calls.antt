@@ -1,4 +1,4 @@
--- Cutting a stream anywhere, into any number of calls, changes nothing: for every call that keeps four laws.
+-- Cutting a stream anywhere, into any number of calls, changes nothing: for every call that keeps the laws of `Streaming`.
 use Prim.Native.Nat.{ℕ, zero, suc, _+_, _<_, _≤_}
 use mathlib.Core.Path.{_≡_, refl, sym, ap, _∙_}
 use mathlib.Core.List.{List, [], _∷_, _++_}
@@ -33,7 +33,7 @@ module _ {S E : Type 0} (call : S → List ℕ → Call S E) (I : S → Type 0) 
   shorter : (s : S) (b : List ℕ) (e : E) (n : ℕ) → I s → call s b .gives ≡ some e → length b ≤ suc n → length (drop (call s b .taken) b) ≤ n
   shorter s b e n i g l = simp length-drop (omega (arith, laws .least s b e i g))
 
-  -- the calls behind one that completes no packet do not matter
+  -- what follows a call that completes no packet does not matter
   ends : (t : Call S E) (r q : Served S E) → t .gives ≡ none → first t r ≡ first t q
   ends t r q g = ap (λ o. andThen o (t .state) r) g ∙ sym (ap (λ o. andThen o (t .state) q) g)
 
@@ -56,14 +56,14 @@ module _ {S E : Type 0} (call : S → List ℕ → Call S E) (I : S → Type 0) 
       ap (first (call s b))
       (same-calls m n (call s b .state) (drop (call s b .taken) b) (laws .keeps s b i) (shorter s b e m i g hm) (shorter s b e n i g hn)))
 
-  -- two runs of calls, one behind the other
-  abbrev behindOne : Served S E → Served S E → Served S E
-  behindOne r q = record { given = r .given ++ q .given; state = q .state }
+  -- two runs of calls, one after the other
+  abbrev followed : Served S E → Served S E → Served S E
+  followed r q = record { given = r .given ++ q .given; state = q .state }
 
   joins : ℕ → S → List ℕ → List ℕ → Type 0
   joins n s a b =
       callsOn call (suc (length (a ++ b))) s (a ++ b)
-      ≡ behindOne (callsOn call n s a) (callsOn call (suc (length b)) (callsOn call n s a .state) b)
+      ≡ followed (callsOn call n s a) (callsOn call (suc (length b)) (callsOn call n s a .state) b)
 
   -- a first call that completes no packet: the second piece goes on where it stopped
   join-none : (n : ℕ) (s : S) (a b : List ℕ) → I s → call s a .gives ≡ none → joins (suc n) s a b
@@ -79,7 +79,7 @@ module _ {S E : Type 0} (call : S → List ℕ → Call S E) (I : S → Type 0) 
       ap (λ (c : Call S E). first c (callsOn call (length (a ++ b)) (c .state) (drop (c .taken) (a ++ b)))) (laws .cut s a b i g)
       ∙ ap (first t) more
       ∙ same-calls (suc (length (a ++ b))) (suc (length b)) s′ b i′ (omega (arith, length-append a b)) (omega arith)
-      ∙ sym (ap (λ (r : Served S E). behindOne r (callsOn call (suc (length b)) (r .state) b)) one)
+      ∙ sym (ap (λ (r : Served S E). followed r (callsOn call (suc (length b)) (r .state) b)) one)
 
   join-calls : (n : ℕ) (s : S) (a b : List ℕ) → I s → length a < n → joins n s a b
   unfolding callsOn joins
@@ -103,7 +103,7 @@ module _ {S E : Type 0} (call : S → List ℕ → Call S E) (I : S → Type 0) 
       ap (λ (c : Call S E). first c (callsOn call (length (a ++ b)) (c .state) (drop (c .taken) (a ++ b)))) (laws .behind s a b e i g)
       ∙ ap (λ o. andThen o s′ (callsOn call (length (a ++ b)) s′ (drop k (a ++ b)))) g
       ∙ ap (λ (r : Served S E). andThen (some e) s′ r) (rest ∙ join-calls n s′ (drop k a) b i′ (omega arith))
-      ∙ sym (ap (λ (r : Served S E). behindOne r (callsOn call (suc (length b)) (r .state) b)) one))
+      ∙ sym (ap (λ (r : Served S E). followed r (callsOn call (suc (length b)) (r .state) b)) one))
 
   keeps-calls : (n : ℕ) (s : S) (b : List ℕ) → I s → I (callsOn call n s b .state)
   unfolding callsOn
@@ -121,5 +121,5 @@ module _ {S E : Type 0} (call : S → List ℕ → Call S E) (I : S → Type 0) 
   unfolding served servedOne joined joins
   in-pieces s [] i = sym (no-bytes 1 s i)
   in-pieces s (b ∷ bs) i =
-      ap (behindOne (callsOn call (suc (length b)) s b)) (in-pieces (callsOn call (suc (length b)) s b .state) bs (keeps-calls (suc (length b)) s b i))
+      ap (followed (callsOn call (suc (length b)) s b)) (in-pieces (callsOn call (suc (length b)) s b .state) bs (keeps-calls (suc (length b)) s b i))
       ∙ sym (join-calls (suc (length b)) s b (joined bs) i (omega arith))

@@ -1,6 +1,9 @@
--- Case splits on tests.
+-- Case splits on tests, and on the order of two numbers.
+use Prim.Native.Nat.{ℕ, _<_, _≤_}
 use mathlib.Core.Path.{_≡_, refl}
 use mathlib.Core.Bool.{Bool, true, false, cond, _&&_, _||_}
+use borrow.Author.Tests.{ltb-true, ltb-false}
+use lib.Dec.{ltb}
 
 -- what holds of both branches holds of the choice
 pub cond-cases : {A : Type 0} (P : A → Type 0) (b : Bool) {x y : A} → (b ≡ true → P x) → (b ≡ false → P y) → P (cond b x y)
@@ -11,6 +14,10 @@ cond-cases P false f g = g refl
 pub bool-cases : {P : Type 0} (b : Bool) → (b ≡ true → P) → (b ≡ false → P) → P
 bool-cases true f g = f refl
 bool-cases false f g = g refl
+
+-- the two orders of numbers
+pub lt-cases : {P : Type 0} (m n : ℕ) → (m < n → P) → (n ≤ m → P) → P
+lt-cases m n f g = bool-cases (ltb m n) (λ e. f (ltb-true m n e)) (λ e. g (ltb-false m n e))
 
 pub and-left : (a b : Bool) → (a && b) ≡ true → a ≡ true
 and-left true b h = refl

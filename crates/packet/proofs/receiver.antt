@@ -1,4 +1,4 @@
 -- The laws of receiver.
 pub mod Laws
-pub mod Lent
+pub mod Steps
 pub mod Streams

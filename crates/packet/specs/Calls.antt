@@ -1,4 +1,4 @@
--- A stream that is handed over in pieces, call after call: for any state and whatever a complete packet gives.
+-- A stream handed over in pieces, call after call, "however the byte stream was cut": for any state, and whatever a complete packet gives.
 use Prim.Native.Nat.{ℕ, zero, suc}
 use mathlib.Core.List.{List, [], _∷_, _++_}
 use mathlib.Core.Option.{Option, none, some}

@@ -1,4 +1,4 @@
--- Numbers of several bytes, least significant first.
+-- "Several bytes to a number: least significant first."
 use Prim.Native.Nat.{ℕ, zero, suc, _+_, _*_, _/_, _%_, _<_}
 use mathlib.Core.List.{List, [], _∷_}
 

@@ -1,4 +1,4 @@
--- The packet: byte 0 type, 1 CMD1, 2 CMD2, 3 flags, 4 and 5 payload length, then the payload, then the checksum.
+-- The packet: "Byte 0 type, 1 CMD1, 2 CMD2, 3 flags, 4 and 5 payload length, then the payload, then the checksum."
 use Prim.Native.Nat.{ℕ, _+_, _*_, _%_}
 use mathlib.Core.Bool.{Bool}
 use mathlib.Core.List.{List, [], _∷_, _++_}
@@ -26,7 +26,7 @@ payloadLength p = getD p 4 0 + 256 * getD p 5 0
 unfoldable pub payload : List ℕ → List ℕ
 payload p = take (payloadLength p) (drop 6 p)
 
--- Types: 02 host write, 04 host read; 01 error, 03 write response, 05 read response.
+-- "Types: 02 host write, 04 host read; 01 error, 03 write response, 05 read response."
 
 abbrev pub error : ℕ
 error = 0x01
@@ -43,7 +43,7 @@ hostRead = 0x04
 abbrev pub readResponse : ℕ
 readResponse = 0x05
 
--- Flags: 00 whole, 01 beginning, 02 intermediate, 03 last.
+-- "Flags: 00 whole, 01 beginning, 02 intermediate, 03 last."
 
 abbrev pub whole : ℕ
 whole = 0x00
@@ -57,11 +57,12 @@ intermediate = 0x02
 abbrev pub last : ℕ
 last = 0x03
 
+-- the types 01 to 05, then the flags 00 to 03
 abbrev pub typesAndFlags : List ℕ
 typesAndFlags =
     error ∷ hostWrite ∷ writeResponse ∷ hostRead ∷ readResponse ∷ whole ∷ beginning ∷ intermediate ∷ last ∷ []
 
--- The checksum: the sum of every earlier byte of the packet, modulo 256.
+-- The checksum: "the sum of every earlier byte of the packet, modulo 256".
 
 unfoldable pub sum : List ℕ → ℕ
 sum [] = 0
@@ -70,16 +71,17 @@ sum (b ∷ bs) = b + sum bs
 unfoldable pub checksum : List ℕ → ℕ
 checksum b = sum b % 256
 
--- the checksum of p is right
+-- the checksum of the packet p is right
 unfoldable pub rightSum : List ℕ → Bool
 rightSum p = eqb (getD p (6 + payloadLength p) 0) (checksum (take (6 + payloadLength p) p))
 
 -- The bytes of a packet of given type, CMD1, CMD2, flags and data.
 
+-- all that stands before n bytes of data
 abbrev pub header : ℕ → ℕ → ℕ → ℕ → ℕ → List ℕ
 header type cmd1 cmd2 flags n = type ∷ cmd1 ∷ cmd2 ∷ flags ∷ bytesOf 2 n
 
--- some bytes with their checksum behind them
+-- some bytes, then their checksum
 unfoldable pub sealed : List ℕ → List ℕ
 sealed b = b ++ (checksum b ∷ [])
 

@@ -1,4 +1,5 @@
--- The whole packets that stand at the start of a list of bytes, in order, and what is left.
+-- The whole packets of some bytes, in order, and what is left. "While at least 7 bytes are left, and at least 7 plus what bytes 4 and 5 of them say, that many
+-- are cut off as the next packet"; "too few bytes for a packet end it".
 use Prim.Native.Nat.{ℕ, zero, suc, _+_}
 use mathlib.Core.Bool.{Bool, cond, _&&_}
 use mathlib.Core.List.{List, [], _∷_}
@@ -8,15 +9,15 @@ use Rattle.packet.specs.Packet.{payloadLength}
 use Rattle.packet.specs.declared.stream.Next.{Next}
 use Rattle.packet.specs.declared.stream.Next.the-variants.{Packet, Nothing}
 
--- the length field frames every packet: 7 bytes, and what bytes 4 and 5 say
+-- "the length field frames every packet": 7 bytes, and what bytes 4 and 5 say
 unfoldable pub size : List ℕ → ℕ
 size b = 7 + payloadLength b
 
--- at least 7 bytes are left, and at least 7 plus what bytes 4 and 5 of them say
+-- b begins with a whole packet
 unfoldable pub hasPacket : List ℕ → Bool
 hasPacket b = leb 7 (length b) && leb (size b) (length b)
 
--- the packet at the start of b
+-- what stands at the start of b: a packet of so many bytes, or none
 unfoldable pub nextIn : List ℕ → Next
 nextIn b = cond (hasPacket b) (Packet (size b)) Nothing
 
@@ -34,6 +35,6 @@ unfoldable pub bytesIn : List (List ℕ) → ℕ
 bytesIn [] = 0
 bytesIn (p ∷ ps) = length p + bytesIn ps
 
--- the bytes behind the packets of b: too few for one more
+-- what the packets of b leave: too few bytes for one more
 unfoldable pub rest : List ℕ → List ℕ
 rest b = drop (bytesIn (packets b)) b

@@ -1,12 +1,8 @@
 // Runs of bytes: summed, and stored as far as there is room.
 ghost use mathlib.Core.Path.{_≡_};
 ghost use Prim.Native.Nat.{_+_, _-_, _%_, min};
-ghost use lib.ListN.{drop};
 ghost use lib.Seq.{sets};
 ghost use Rattle.packet.specs.Packet.{sum as sumOf};
-
-// How many payload bytes the hold has room for.
-pub(crate) const HOLD: usize = 1024;
 
 // a less b, and nothing where b is more.
 pub(crate) fn less(a: usize, b: usize) -> usize
@@ -18,6 +14,7 @@ pub(crate) fn less(a: usize, b: usize) -> usize
     a - b
 }
 
+// The lesser of a and b.
 pub(crate) fn least(a: usize, b: usize) -> usize
     ensures { λ r. ⌜ r ≡ min a b ⌝ }
 {
@@ -50,14 +47,4 @@ pub(crate) fn store(into: &mut [u8], at: usize, b: &[u8])
         into[at + i] = b[i];
         i += 1;
     }
-}
-
-// Stores the payload among these bytes behind the bytes that are held, so many bytes of the packet
-// having come in before.
-pub(crate) fn keep(hold: &mut [u8; 1024], held: usize, received: usize, b: &[u8])
-    ensures { λ _. ⌜ now (hold .exit) ≡ sets (now (hold .entry)) (held + (received - 6)) (drop (6 - received) (now (b .entry))) ⌝ }
-{
-    let skip = least(less(6, received), b.len());
-    let at = least(held, HOLD) + least(less(received, 6), HOLD);
-    store(hold, at, &b[skip..]);
 }

@@ -1,9 +1,21 @@
-// The crate packet.
-mod bytes;
+// The packet layer: bytes to packets and packets to bytes. What a packet means is not known here.
+
+// Numbers of two bytes.
 mod number;
+
+// A packet's sizes, types and flags.
 mod packet;
-mod receiver;
+
+// The next whole packet of a slice.
 mod stream;
+
+// Runs of bytes: summed, and stored as far as there is room.
+mod bytes;
+
+// Takes bytes from a stream, in pieces of any length, until one packet is complete.
+mod receiver;
+
+// Writes a packet to a lent buffer.
 mod writer;
 
 pub use number::word;
@@ -17,12 +29,9 @@ pub use packet::READ_RESPONSE;
 pub use packet::WHOLE;
 pub use packet::WRITE_RESPONSE;
 pub use packet::types_and_flags;
-pub use receiver::Received;
 pub use receiver::Receiver;
 pub use receiver::Taken;
-pub use receiver::put_header;
 pub use receiver::receive;
-pub use receiver::take;
 pub use stream::Next;
 pub use stream::next_packet;
 pub use writer::Written;

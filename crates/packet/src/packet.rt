@@ -1,20 +1,29 @@
-// packet.
+// The packet: its sizes, types and flags.
 ghost use mathlib.Core.Path.{_≡_};
 ghost use Rattle.packet.specs.Packet.{typesAndFlags};
 
-// Types of packets that the head sends.
+// The bytes before the payload: type, CMD1, CMD2, flags, and the payload's length in two.
+pub(crate) const HEADER: usize = 6;
+
+// The bytes around the payload: the header, and the checksum.
+pub(crate) const FRAME: usize = HEADER + 1;
+
+// The longest payload that the length field can tell.
+pub(crate) const PAYLOAD_MAX: usize = 65535;
+
+// Types of the packets that the head sends.
 pub const ERROR: u8 = 0x01;
 
 pub const WRITE_RESPONSE: u8 = 0x03;
 
 pub const READ_RESPONSE: u8 = 0x05;
 
-// Types of packets that the host sends.
+// Types of the packets that the host sends.
 pub const HOST_WRITE: u8 = 0x02;
 
 pub const HOST_READ: u8 = 0x04;
 
-// Flags: the packet is a whole write, or one part of a transfer.
+// Flags: the packet is whole, or one part of a transfer.
 pub const WHOLE: u8 = 0x00;
 
 pub const BEGINNING: u8 = 0x01;
@@ -23,7 +32,7 @@ pub const INTERMEDIATE: u8 = 0x02;
 
 pub const LAST: u8 = 0x03;
 
-// The numbers above in the order of the document: the types 01 to 05, then the flags 00 to 03.
+// The types 01 to 05, then the flags 00 to 03: its contract states each of the constants above.
 pub fn types_and_flags() -> [u8; 9]
     ensures { λ r. ⌜ r ≡ typesAndFlags ⌝ }
 {

@@ -1,15 +1,17 @@
-// What stands at a place of a slice: a whole packet of so many bytes, or too few bytes for one.
+// The next whole packet of a slice.
 use crate::number::word;
+use crate::packet::FRAME;
 ghost use mathlib.Core.Path.{_≡_};
 ghost use lib.ListN.{drop};
 ghost use Rattle.packet.specs.Stream.{nextIn};
 
+// What stands at a place of a slice: a whole packet of so many bytes, or too few bytes for one.
 pub enum Next {
     Packet(usize),
     Nothing,
 }
 
-// The packet that starts at `at`. Past the end of b there is nothing.
+// The packet that starts at `at`; past the end of b there is none.
 pub fn next_packet(b: &[u8], at: usize) -> Next
     ensures { λ r. ⌜ r ≡ nextIn (drop at (now (b .entry))) ⌝ }
 {
@@ -17,10 +19,10 @@ pub fn next_packet(b: &[u8], at: usize) -> Next
         return Next::Nothing;
     }
     let left = b.len() - at;
-    if left < 7 {
+    if left < FRAME {
         return Next::Nothing;
     }
-    let size = 7 + word(b[at + 4], b[at + 5]);
+    let size = FRAME + word(b[at + 4], b[at + 5]);
     if left < size {
         return Next::Nothing;
     }

@@ -8,9 +8,8 @@ use lib.Dec.{eqb}
 use lib.ListN.{length, getD}
 use Rattle.packet.specs.Packet.{writeResponse, packetOf, sealed}
 use Rattle.packet.specs.Stream.{hasPacket}
-use Rattle.packet.specs.Receiver.{with, waiting as receiverWaiting}
+use Rattle.packet.specs.Receiver.{Received, with, waiting as receiverWaiting}
 use Rattle.packet.specs.Writer.{written}
-use Rattle.packet.specs.declared.receiver.Received.{Received}
 use Rattle.packet.proofs.StreamLaws.{IsPacket}
 use Rattle.packet.proofs.ReceiverLaws.{Between, between-packet, one, first-of, too-few}
 use Rattle.command.specs.Faults.{arrived}

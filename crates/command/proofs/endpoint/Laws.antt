@@ -10,10 +10,9 @@ use borrow.Author.Tests.{lt-ltb, le-ltb, ltb-true, ltb-false, le-leb}
 use lib.ListN.{length, take}
 use lib.Seq.{sets}
 use Rattle.packet.specs.Packet.{payloadLength}
-use Rattle.packet.specs.Receiver.{with, missing, waiting as receiverWaiting, completed}
+use Rattle.packet.specs.Receiver.{Received, with, missing, waiting as receiverWaiting, completed}
 use Rattle.packet.specs.Calls.{Call, servedOne, served, joined}
 use Rattle.packet.specs.declared.receiver.Receiver.{Receiver}
-use Rattle.packet.specs.declared.receiver.Received.{Received}
 use Rattle.packet.proofs.Cases.{bool-cases, cond-cases}
 use Rattle.packet.proofs.ReceiverLaws.{Made, made-with, made-between, with-nil, missing-least, after, cut, behind, waits, completes}
 use Rattle.packet.proofs.Calls.{Streaming, shifted, in-pieces}

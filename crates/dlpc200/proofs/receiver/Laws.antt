@@ -12,9 +12,8 @@ use lib.ListN.{length, getD, drop, take, set, drop-of-length-le, List·getD-appe
 use lib.Seq.{sets, length-sets, drop-cons, drop-nil, take-append-add, take-append-le, drop-append-add, drop-append-le, getD-append-add, getD-drop}
 use Rattle.packet.specs.Packet.{payloadLength, payload, sum}
 use Rattle.packet.specs.Stream.{size, hasPacket}
-use Rattle.packet.specs.Receiver.{with as packetWith, missing, waiting, completed, receiving as packetReceiving}
+use Rattle.packet.specs.Receiver.{Received as PacketReceived, with as packetWith, missing, waiting, completed, receiving as packetReceiving}
 use Rattle.packet.specs.declared.receiver.Receiver.{Receiver as PacketReceiver}
-use Rattle.packet.specs.declared.receiver.Received.{Received as PacketReceived}
 use Rattle.packet.proofs.Cases.{bool-cases}
 use Rattle.packet.proofs.StreamLaws.{IsPacket}
 use Rattle.packet.proofs.BytesLaws.{sum-append}

@@ -7,9 +7,9 @@ use native.Mathlib.Numerals.{add-one}
 use native.Mathlib.Omega.{arith}
 use lib.ListN.{length, getD, take, drop, set, take-append-drop, drop-of-length-le}
 use lib.Seq.{sets, sets-eq, length-sets, set-out, length-take-le, drop-cons}
-use Rattle.packet.specs.Packet.{sum, checksum}
+use Rattle.packet.specs.Packet.{sum}
 
--- a run of stores behind another is one run
+-- a run of stores after another is one run
 pub sets-append : (xs ys l : List ℕ) (i : ℕ) → sets (sets l i xs) (i + length xs) ys ≡ sets l i (xs ++ ys)
 sets-append [] ys l i = rw (add-zero i)
 sets-append (x ∷ xs) ys l i =
@@ -49,10 +49,6 @@ pub sum-more : (xs : List ℕ) (s i : ℕ) → i < length xs
     → ((s + getD xs i 0) % 256 + sum (drop (i + 1) xs)) % 256 ≡ (s + sum (drop i xs)) % 256
 unfolding sum
 sum-more xs s i h = rw (drop-cons xs i 0 h, add-one i) (omega arith)
-
-pub sum-end : (xs : List ℕ) (s i : ℕ) → length xs ≤ i → s < 256 → (s + sum (drop i xs)) % 256 ≡ checksum xs → s ≡ checksum xs
-unfolding sum
-sum-end xs s i h l e = omega (arith, rw (drop-of-length-le xs {i = i} h) at e)
 
 -- what a buffer holds after bytes were stored at its start
 pub sets-front : (xs l : List ℕ) → length xs ≤ length l → sets l 0 xs ≡ xs ++ drop (length xs) l

@@ -1,21 +1,20 @@
 -- The receiver on streams: cutting a stream changes nothing, and a whole packet completes at its last byte.
-use mathlib.Core.Path.{_≡_, refl, sym, ap, subst, _∙_}
+use mathlib.Core.Path.{_≡_, refl, sym, ap, _∙_}
 use mathlib.Core.List.{List, [], _∷_, _++_}
 use mathlib.Core.Bool.{Bool, true, false}
 use Prim.Native.Nat.{ℕ, suc, _+_, _-_, _%_, _<_, _≤_}
-use native.Mathlib.Nat.{add-zero, zero-add, add-assoc}
+use native.Mathlib.Nat.{add-zero, zero-add}
 use native.Mathlib.Numerals.{add-one}
 use native.Mathlib.Omega.{arith}
-use lib.Dec.{eqb, ltb}
-use borrow.Author.Tests.{le-ltb, lt-ltb, ltb-true, ltb-false}
+use lib.Dec.{eqb}
+use borrow.Author.Tests.{le-ltb, lt-ltb}
 use lib.ListN.{length, getD, drop, take, set, length-append, length-drop, drop-of-length-le, List·getD-append}
 use lib.Seq.{sets, length-sets, set-out, drop-cons, drop-nil, take-append-add, take-append-le, drop-append-add, drop-append-le, getD-append-add, getD-take, take-take, take-add, drop-at, length-take-le}
 use Rattle.packet.specs.declared.receiver.Receiver.{Receiver}
-use Rattle.packet.specs.declared.receiver.Received.{Received}
 use Rattle.packet.specs.Packet.{payloadLength, payload, sum, checksum, rightSum}
 use Rattle.packet.specs.Stream.{size, hasPacket}
-use Rattle.packet.specs.Receiver.{with, between, missing, waiting, completed, receiving}
-use Rattle.packet.proofs.Cases.{bool-cases}
+use Rattle.packet.specs.Receiver.{Received, with, between, missing, waiting, completed, receiving}
+use Rattle.packet.proofs.Cases.{lt-cases}
 use Rattle.packet.proofs.stream.Laws.{IsPacket, has-packet}
 use Rattle.packet.proofs.bytes.Laws.{sets-append, sets-past, sets-whole, sum-append}
 
@@ -35,16 +34,14 @@ hold-append : (d : List ℕ) (held g : ℕ) (a b : List ℕ)
     → sets (sets d (held + (g - 6)) (drop (6 - g) a)) (held + (g + length a - 6)) (drop (6 - (g + length a)) b)
     ≡ sets d (held + (g - 6)) (drop (6 - g) (a ++ b))
 hold-append d held g a b =
-    bool-cases (ltb (length a) (6 - g))
-    (λ e.
-    let l : length a < 6 - g = ltb-true (length a) (6 - g) e in
+    lt-cases (length a) (6 - g)
+    (λ l.
     let n : drop (6 - g) a ≡ [] = drop-of-length-le a {i = 6 - g} (omega arith) in
     let k : length a + (6 - (g + length a)) ≡ 6 - g = omega arith in
     let m : drop (6 - g) (a ++ b) ≡ drop (6 - (g + length a)) b = rw k at (drop-append-add a b (6 - (g + length a))) in
     let p : held + (g + length a - 6) ≡ held + (g - 6) = omega arith in
     rw (n, m, p))
-    (λ e.
-    let l : 6 - g ≤ length a = ltb-false (length a) (6 - g) e in
+    (λ l.
     let m : drop (6 - g) (a ++ b) ≡ drop (6 - g) a ++ b = drop-append-le (6 - g) a b l in
     let z : 6 - (g + length a) ≡ 0 = omega arith in
     let p : held + (g + length a - 6) ≡ held + (g - 6) + length (drop (6 - g) a) = simp length-drop (omega arith) in
@@ -75,9 +72,6 @@ made-with r held b m =
 pub made-between : (r : Receiver) → Made r → Made (between r)
 made-between r m = record { header = m .header; hold = m .hold; sum = omega arith }
 
-pub made-more : (r : Receiver) (held b : ℕ) {q : Receiver} → Made r → with r held (b ∷ []) ≡ q → Made q
-made-more r held b m e = subst Made e (made-with r held (b ∷ []) m)
-
 -- the count of a call whose bytes have n others before them
 abbrev pub after : ℕ → Received → Received
 after n t = record { taken = n + t .taken; complete = t .complete; right = t .right; receiver = t .receiver }
@@ -93,18 +87,14 @@ pub missing-least : (r : Receiver) (b : List ℕ) → 1 ≤ missing r b
 unfolding missing
 missing-least r b = omega arith
 
--- what is missing after a is missing with b behind a, less a
+-- what is missing after a is missing with b after it, less a
 missing-append : (r : Receiver) (held : ℕ) (a b : List ℕ) → length (r .header) ≡ 6 → length a < missing r a
     → missing r (a ++ b) ≡ length a + missing (with r held a) b
 unfolding missing with
 missing-append r held a b h l =
-    bool-cases (ltb (r .received + length a) 6)
-    (λ e.
-    let f : r .received + length a < 6 = ltb-true (r .received + length a) 6 e in
-    rw (sets-append a b (r .header) (r .received)) (omega arith))
-    (λ e.
-    let s : sets (r .header) (r .received) (a ++ b) ≡ sets (r .header) (r .received) a = header-stays r a b h (ltb-false (r .received + length a) 6 e) in
-    rw (sets-append a b (r .header) (r .received), s) (omega arith))
+    lt-cases (r .received + length a) 6
+    (λ e. rw (sets-append a b (r .header) (r .received)) (omega arith))
+    (λ e. rw (sets-append a b (r .header) (r .received), header-stays r a b h e) (omega arith))
 
 received-eq : {n n′ : ℕ} {c p p′ : Bool} {r r′ : Receiver} → n ≡ n′ → p ≡ p′ → r ≡ r′
     → _≡_ {A = Received} (record { taken = n; complete = c; right = p; receiver = r }) (record { taken = n′; complete = c; right = p′; receiver = r′ })
@@ -121,21 +111,31 @@ completed-append r held a b n h =
     let k : length a + n - 1 ≡ length a + (n - 1) = omega arith in
     rw (k, take-append-add a b (n - 1), getD-append-add a b (n - 1) 0, with-append r held a (take (n - 1) b))
 
+-- whether a call completes a packet
+pub waits : (r : Receiver) (held : ℕ) (b : List ℕ) → length b < missing r b → receiving r held b ≡ waiting r held b
+unfolding receiving
+waits r held b l = rw (lt-ltb (length b) (missing r b) l)
+
+pub completes : (r : Receiver) (held : ℕ) (b : List ℕ) → missing r b ≤ length b → receiving r held b ≡ completed r held b (missing r b)
+unfolding receiving
+completes r held b l = rw (le-ltb (length b) (missing r b) l)
+
 -- two calls: bytes that complete no packet, and then others, are taken as all of them at once
 pub cut : (r : Receiver) (held : ℕ) (a b : List ℕ) → length (r .header) ≡ 6 → length a < missing r a
     → receiving r held (a ++ b) ≡ after (length a) (receiving (with r held a) held b)
-unfolding receiving
 cut r held a b h l =
     let m : missing r (a ++ b) ≡ length a + missing (with r held a) b = missing-append r held a b h l in
     let n : length (a ++ b) ≡ length a + length b = length-append a b in
-    bool-cases (ltb (length b) (missing (with r held a) b))
+    lt-cases (length b) (missing (with r held a) b)
     (λ e.
-    let f : length b < missing (with r held a) b = ltb-true (length b) (missing (with r held a) b) e in
-    rw (lt-ltb (length (a ++ b)) (missing r (a ++ b)) (omega arith), e) (waiting-append r held a b))
+    waits r held (a ++ b) (omega arith)
+    ∙ waiting-append r held a b
+    ∙ ap (after (length a)) (sym (waits (with r held a) held b e)))
     (λ e.
-    let f : missing (with r held a) b ≤ length b = ltb-false (length b) (missing (with r held a) b) e in
-    rw (le-ltb (length (a ++ b)) (missing r (a ++ b)) (omega arith), e, m)
-    (completed-append r held a b (missing (with r held a) b) (missing-least (with r held a) b)))
+    completes r held (a ++ b) (omega arith)
+    ∙ ap (completed r held (a ++ b)) m
+    ∙ completed-append r held a b (missing (with r held a) b) (missing-least (with r held a) b)
+    ∙ ap (after (length a)) (sym (completes (with r held a) held b e)))
 
 -- a packet that is complete has its header
 header-complete : (r : Receiver) (a : List ℕ) → missing r a ≤ length a → 6 ≤ r .received + length a
@@ -150,33 +150,23 @@ completed-behind : (r : Receiver) (held : ℕ) (a b : List ℕ) (n : ℕ) → n 
 unfolding completed
 completed-behind r held a b n h = rw (take-append-le (n - 1) a b (omega arith), List·getD-append a b 0 (n - 1) h)
 
--- a packet that is complete within a is not changed by what stands behind a
+-- a packet that is complete within a is not changed by what follows a
 pub behind : (r : Receiver) (held : ℕ) (a b : List ℕ) → length (r .header) ≡ 6 → missing r a ≤ length a
     → receiving r held (a ++ b) ≡ receiving r held a
-unfolding receiving
 behind r held a b h l =
     let m : missing r (a ++ b) ≡ missing r a = missing-behind r a b h (header-complete r a l) in
-    let n : length (a ++ b) ≡ length a + length b = length-append a b in
-    let p : missing r a - 1 < length a = omega (arith, missing-least r a) in
-    rw (le-ltb (length (a ++ b)) (missing r (a ++ b)) (omega arith), le-ltb (length a) (missing r a) l, m)
-    (completed-behind r held a b (missing r a) p)
-
--- whether a call completes a packet
-pub waits : (r : Receiver) (held : ℕ) (b : List ℕ) → length b < missing r b → receiving r held b ≡ waiting r held b
-unfolding receiving
-waits r held b l = rw (lt-ltb (length b) (missing r b) l)
-
-pub completes : (r : Receiver) (held : ℕ) (b : List ℕ) → missing r b ≤ length b → receiving r held b ≡ completed r held b (missing r b)
-unfolding receiving
-completes r held b l = rw (le-ltb (length b) (missing r b) l)
+    completes r held (a ++ b) (omega (arith, length-append a b))
+    ∙ ap (completed r held (a ++ b)) m
+    ∙ completed-behind r held a b (missing r a) (omega (arith, missing-least r a))
+    ∙ sym (completes r held a l)
 
 -- a byte that is not the last
 more-missing : (r : Receiver) (b : ℕ) → length (r .header) ≡ 6 → r .received < 6 + payloadLength (r .header) → 1 < missing r (b ∷ [])
 unfolding missing
 more-missing r b h n =
-    bool-cases (ltb (r .received) 6)
-    (λ e. omega (arith, ltb-true (r .received) 6 e))
-    (λ e. rw (set-out (r .header) (r .received) b (omega (arith, ltb-false (r .received) 6 e))) (omega arith))
+    lt-cases (r .received) 6
+    (λ e. omega arith)
+    (λ e. rw (set-out (r .header) (r .received) b (omega arith)) (omega arith))
 
 -- the last byte
 one-missing : (r : Receiver) (b : List ℕ) → length (r .header) ≡ 6 → 6 + payloadLength (r .header) ≤ r .received → missing r b ≡ 1
@@ -187,10 +177,6 @@ first-byte : (r : Receiver) (held b : ℕ) (bs : List ℕ) → r .sum < 256
     → completed r held (b ∷ bs) 1 ≡ record { taken = 1; complete = true; right = eqb b (r .sum); receiver = between r }
 unfolding completed
 first-byte r held b bs s = rw (with-nil r held s)
-
-no-byte : (r : Receiver) (held : ℕ) → r .sum < 256 → waiting r held [] ≡ record { taken = 0; complete = false; right = false; receiver = r }
-unfolding waiting
-no-byte r held s = rw (with-nil r held s)
 
 -- One byte of a call, as the code goes through its input.
 module _ (r : Receiver) (held : ℕ) (xs : List ℕ) (i : ℕ) where
@@ -208,11 +194,6 @@ module _ (r : Receiver) (held : ℕ) (xs : List ℕ) (i : ℕ) where
       (completes r held (getD xs i 0 ∷ drop (suc i) xs) (omega arith)
       ∙ ap (completed r held (getD xs i 0 ∷ drop (suc i) xs)) m
       ∙ first-byte r held (getD xs i 0) (drop (suc i) xs) s)
-
-  pub take-nothing : r .sum < 256 → length xs ≤ i → after i (receiving r held (drop i xs)) ≡ record { taken = i; complete = false; right = false; receiver = r }
-  take-nothing s l =
-      ap (after i) (rw (drop-of-length-le xs {i = i} l) (waits r held [] (omega (arith, missing-least r [])) ∙ no-byte r held s))
-      ∙ received-eq (add-zero i) refl refl
 
 -- the receiver with one byte more: a header byte, a payload byte that is held, or one that finds no room
 pub with-header : (r : Receiver) (held b : ℕ) {s : ℕ} → r .received < 6 → s ≡ (r .sum + b) % 256
@@ -245,40 +226,28 @@ afterPacket r held p = record { header = take 6 p; sum = 0; received = 0; hold =
 pub between-packet : (r : Receiver) (held : ℕ) (p : List ℕ) → IsPacket p → Between (afterPacket r held p)
 between-packet r held p i = record { header = length-take-le 6 p (omega (arith, i .least)); sum = refl; received = refl }
 
+-- the first six bytes are the header
+header-boundary : (r : Receiver) (b : List ℕ) → Between r → 6 ≤ length b → sets (r .header) 0 b ≡ take 6 b
+header-boundary r b k l = sets-whole b (r .header) (omega (arith, k .header)) ∙ ap (λ (n : ℕ). take n b) (k .header)
+
 missing-boundary : (r : Receiver) (b : List ℕ) → Between r → 6 ≤ length b → missing r b ≡ size b
 unfolding missing size
 missing-boundary r b k l =
-    let s : sets (r .header) 0 b ≡ take 6 b = sets-whole b (r .header) (omega (arith, k .header)) ∙ ap (λ (n : ℕ). take n b) (k .header) in
-    rw (k .received, s, getD-take 6 b 4 0 (omega arith), getD-take 6 b 5 0 (omega arith)) (omega arith)
+    rw (k .received, header-boundary r b k l, getD-take 6 b 4 0 (omega arith), getD-take 6 b 5 0 (omega arith)) (omega arith)
 
 missing-early : (r : Receiver) (b : List ℕ) → Between r → length b < 7 → length b < missing r b
 unfolding missing
 missing-early r b k l = omega (arith, k .received)
 
-pub after-none : (t : Received) → after 0 t ≡ t
-after-none t = received-eq (zero-add (t .taken)) refl refl
-
-pub after-after : (m n : ℕ) (t : Received) → after m (after n t) ≡ after (m + n) t
-after-after m n t = received-eq (sym (add-assoc m n (t .taken))) refl refl
-
--- a byte that is not the checksum, where q is the receiver with that byte
-pub one-more : (r : Receiver) (held : ℕ) (xs : List ℕ) (i : ℕ) {q : Receiver} → length (r .header) ≡ 6 → i < length xs → r .received < 6 + payloadLength (r .header)
-    → with r held (getD xs i 0 ∷ []) ≡ q
-    → after i (receiving r held (drop i xs)) ≡ after (i + 1) (receiving q held (drop (i + 1) xs))
-one-more r held xs i {q} h l n e =
-    ap (after i) (take-byte r held xs i h l n ∙ ap (λ (x : Receiver). after 1 (receiving x held (drop (i + 1) xs))) e)
-    ∙ after-after i 1 (receiving q held (drop (i + 1) xs))
-
 with-boundary : (r : Receiver) (held : ℕ) (b : List ℕ) → Between r → 6 ≤ length b
     → with r held b ≡ record { header = take 6 b; sum = checksum b; received = length b; hold = sets (r .hold) held (drop 6 b) }
 unfolding with checksum
 with-boundary r held b k l =
-    let n : held + 0 ≡ held = add-zero held in
-    let s : sets (r .header) 0 b ≡ take 6 b = sets-whole b (r .header) (omega (arith, k .header)) ∙ ap (λ (n : ℕ). take n b) (k .header) in
-    rw (k .received, k .sum, s, n, zero-add (length b), zero-add (sum b))
+    rw (k .received, k .sum, header-boundary r b k l, add-zero held, zero-add (length b), zero-add (sum b))
 
-payload-behind : (p : List ℕ) (m : ℕ) → 6 + m ≤ length p → drop 6 (take (6 + m) p) ≡ take m (drop 6 p)
-payload-behind p m h = rw (take-add 6 m p) (drop-at (take 6 p) (take m (drop 6 p)) 6 (length-take-le 6 p (omega arith)))
+-- the payload among the bytes before the checksum
+payload-part : (p : List ℕ) (m : ℕ) → 6 + m ≤ length p → drop 6 (take (6 + m) p) ≡ take m (drop 6 p)
+payload-part p m h = rw (take-add 6 m p) (drop-at (take 6 p) (take m (drop 6 p)) 6 (length-take-le 6 p (omega arith)))
 
 -- exactly the bytes of one whole packet complete it, at its last byte
 abbrev pub one : Receiver → ℕ → List ℕ → Received
@@ -292,9 +261,9 @@ completed-whole r held p k e =
     let w = with-boundary r held (take (6 + payloadLength p) p) k (omega arith) in
     received-eq e
     (rw (n, w))
-    (rw (n, w, take-take 6 (6 + payloadLength p) p (omega arith), payload-behind p (payloadLength p) (omega arith)))
+    (rw (n, w, take-take 6 (6 + payloadLength p) p (omega arith), payload-part p (payloadLength p) (omega arith)))
 
--- From between two packets: a packet and anything behind it.
+-- From between two packets: a packet and anything after it.
 module _ (r : Receiver) (held : ℕ) (k : Between r) where
   missing-whole : (p : List ℕ) → IsPacket p → missing r p ≡ length p
   missing-whole p i = missing-boundary r p k (omega (arith, i .least)) ∙ i .exact
@@ -313,9 +282,9 @@ module _ (r : Receiver) (held : ℕ) (k : Between r) where
   pub too-few : (b : List ℕ) → hasPacket b ≡ false → receiving r held b ≡ waiting r held b
   too-few b h =
       waits r held b
-      (bool-cases (ltb (length b) 7)
-      (λ e. missing-early r b k (ltb-true (length b) 7 e))
-      (λ e. bool-cases (ltb (length b) (size b))
-      (λ f. omega (arith, missing-boundary r b k (omega (arith, ltb-false (length b) 7 e)), ltb-true (length b) (size b) f))
-      (λ f. let z : _≡_ {A = Bool} true false = sym (has-packet b (ltb-false (length b) 7 e) (ltb-false (length b) (size b) f)) ∙ h in
+      (lt-cases (length b) 7
+      (λ e. missing-early r b k e)
+      (λ e. lt-cases (length b) (size b)
+      (λ f. omega (arith, missing-boundary r b k (omega arith)))
+      (λ f. let z : _≡_ {A = Bool} true false = sym (has-packet b e f) ∙ h in
       let y : _≡_ {A = ℕ} 0 1 = cc in absurd (omega arith))))

@@ -5,17 +5,14 @@ use mathlib.Core.Bool.{Bool, false, cond}
 use mathlib.Core.List.{List, [], _∷_, _++_}
 use mathlib.Core.Option.{none, some}
 use native.Mathlib.Omega.{arith}
-use borrow.Author.Tests.{ltb-true, ltb-false}
-use lib.Dec.{ltb}
 use lib.ListN.{length, take, drop, length-append}
 use lib.Seq.{drop-at}
 use Rattle.packet.specs.declared.receiver.Receiver.{Receiver}
-use Rattle.packet.specs.declared.receiver.Received.{Received}
 use Rattle.packet.specs.Packet.{rightSum}
 use Rattle.packet.specs.Stream.{hasPacket, packets, rest}
-use Rattle.packet.specs.Receiver.{with, missing, waiting, completed, receiving}
+use Rattle.packet.specs.Receiver.{Received, with, missing, waiting, completed, receiving}
 use Rattle.packet.specs.Calls.{Call, Served, andThen, callsOn, servedOne, served, joined}
-use Rattle.packet.proofs.Cases.{bool-cases}
+use Rattle.packet.proofs.Cases.{lt-cases}
 use Rattle.packet.proofs.stream.Laws.{IsPacket, packets-cons, rest-cons, packets-none, rest-none, packet-induction}
 use Rattle.packet.proofs.receiver.Laws.{Made, made-with, made-between, with-nil, missing-least, cut, behind, waits, completes, Between, between-packet, afterPacket, first-of, too-few}
 use Rattle.packet.proofs.Calls.{Streaming, shifted, in-pieces, same-calls}
@@ -46,19 +43,17 @@ module _ (held : ℕ) (r : Receiver) (b : List ℕ) where
   call-completes : missing r b ≤ length b → receives held r b ≡ framed (completed r held b (missing r b))
   call-completes l = ap framed (completes r held b l)
 
-  by-ends : {P : Type 0} → (length b < missing r b → P) → (missing r b ≤ length b → P) → P
-  by-ends f g = bool-cases (ltb (length b) (missing r b)) (λ e. f (ltb-true (length b) (missing r b) e)) (λ e. g (ltb-false (length b) (missing r b) e))
-
   none-waits : receives held r b .gives ≡ none → length b < missing r b
   unfolding completed
   none-waits g =
-      by-ends (λ l. l)
+      lt-cases (length b) (missing r b)
+      (λ l. l)
       (λ l. let h = sym (ap (λ (t : Call Receiver Framed). t .gives) (call-completes l)) ∙ g in
       let z : _≡_ {A = ℕ} 0 1 = cc in absurd (omega arith))
 
   some-completes : (e : Framed) → receives held r b .gives ≡ some e → missing r b ≤ length b
   some-completes e g =
-      by-ends
+      lt-cases (length b) (missing r b)
       (λ l. let h = sym (ap (λ (t : Call Receiver Framed). t .gives) (call-waits l)) ∙ g in
       let z : _≡_ {A = ℕ} 0 1 = cc in absurd (omega arith))
       (λ l. l)
@@ -66,7 +61,7 @@ module _ (held : ℕ) (r : Receiver) (b : List ℕ) where
 keeps-made : (held : ℕ) (r : Receiver) (b : List ℕ) → Made r → Made (receives held r b .state)
 unfolding completed
 keeps-made held r b m =
-    by-ends held r b
+    lt-cases (length b) (missing r b)
     (λ l. subst (λ (t : Call Receiver Framed). Made (t .state)) (sym (call-waits held r b l)) (made-with r held b m))
     (λ l. subst (λ (t : Call Receiver Framed). Made (t .state)) (sym (call-completes held r b l))
     (made-between (with r held (take (missing r b - 1) b)) (made-with r held (take (missing r b - 1) b) m)))

@@ -54,7 +54,7 @@ packet-front p b h =
     let l : length (p ++ b) ≡ length p + length b = length-append p b in
     has-packet (p ++ b) (omega (arith, h .least)) (omega arith)
 
--- what is left behind the packet is shorter
+-- what is left after the packet is shorter
 shorter : (b : List ℕ) (n : ℕ) → hasPacket b ≡ true → length b ≤ suc n → length (drop (size b) b) ≤ n
 shorter b n h l = simp length-drop (omega (arith, size-within b h, seven b))
 
@@ -117,7 +117,7 @@ packet-induction P none more b = go (length b) b (omega arith)
         (λ e. subst P (take-append-drop (size b) b) (more (take (size b) b) (drop (size b) b) (first-packet b e) (next e)))
         (λ e. none b e)
 
--- joined streams: the packets of the first, then those of what it left with the second behind it
+-- joined streams: the packets of the first, then those of what it left with the second after it
 pub packets-joined : (a b : List ℕ) → packets (a ++ b) ≡ packets a ++ packets (rest a ++ b)
 packets-joined a b =
     packet-induction (λ x. packets (x ++ b) ≡ packets x ++ packets (rest x ++ b))
@@ -161,16 +161,22 @@ pub rest-nil : rest [] ≡ []
 unfolding rest bytesIn packets packetsIn
 rest-nil = refl
 
--- the next packet, where there is one and where there is none
-pub next-some : (b : List ℕ) → hasPacket b ≡ true → nextIn b ≡ Packet (size b)
-unfolding nextIn
-next-some b h = rw h
+-- The packet at a place of a buffer, n being what its length field says.
+module _ (b : List ℕ) (at : ℕ) where
+  pub none-begun : length b < at + 7 → Nothing ≡ nextIn (drop at b)
+  unfolding nextIn
+  none-begun l = rw (no-header (drop at b) (simp length-drop (omega arith)))
 
-pub next-none : (b : List ℕ) → hasPacket b ≡ false → nextIn b ≡ Nothing
-unfolding nextIn
-next-none b h = rw h
+  size-at : {n : ℕ} → n ≡ getD b (at + 4) 0 + 256 * getD b (at + 5) 0 → size (drop at b) ≡ 7 + n
+  unfolding size
+  size-at e = rw (getD-drop at b 4 0, getD-drop at b 5 0) (omega arith)
 
--- the size of the packet at a place of a buffer
-pub size-at : (b : List ℕ) (at : ℕ) {n : ℕ} → n ≡ getD b (at + 4) 0 + 256 * getD b (at + 5) 0 → size (drop at b) ≡ 7 + n
-unfolding size
-size-at b at e = rw (getD-drop at b 4 0, getD-drop at b 5 0) (omega arith)
+  pub none-ended : {n : ℕ} → n ≡ getD b (at + 4) 0 + 256 * getD b (at + 5) 0 → length b < at + (7 + n) → Nothing ≡ nextIn (drop at b)
+  unfolding nextIn
+  none-ended e l = rw (no-end (drop at b) (simp length-drop (omega (arith, size-at e))))
+
+  pub next-at : {n : ℕ} → n ≡ getD b (at + 4) 0 + 256 * getD b (at + 5) 0 → at + (7 + n) ≤ length b → Packet (7 + n) ≡ nextIn (drop at b)
+  unfolding nextIn
+  next-at e l =
+      rw
+      (has-packet (drop at b) (simp length-drop (omega arith)) (simp length-drop (omega (arith, size-at e))), size-at e)

@@ -42,10 +42,10 @@ sealed-front xs l h =
     let j : sets (sets l 0 xs) (length xs) (checksum xs ∷ []) ≡ sets l 0 (xs ++ (checksum xs ∷ [])) = rw zero-add at (sets-append xs (checksum xs ∷ []) l 0) in
     rw t (j ∙ sets-front (xs ++ (checksum xs ∷ [])) l (omega arith))
 
--- bytes written behind others
-pub written-behind : (a b out : List ℕ) → a ++ written b (drop (length a) out) ≡ written (a ++ b) out
+-- bytes written after others
+pub written-after : (a b out : List ℕ) → a ++ written b (drop (length a) out) ≡ written (a ++ b) out
 unfolding written
-written-behind a b out = rw (drop-drop (length b) (length a) out, length-append a b) (sym (append-assoc a b (drop (length a + length b) out)))
+written-after a b out = rw (drop-drop (length b) (length a) out, length-append a b) (sym (append-assoc a b (drop (length a + length b) out)))
 
 pub written-none : (out : List ℕ) → written [] out ≡ out
 unfolding written
@@ -55,7 +55,7 @@ pub length-written-to : (b out : List ℕ) → length b ≤ length out → lengt
 unfolding written
 length-written-to b out h = rw (length-append b (drop (length b) out), length-drop (length b) out) (omega arith)
 
--- b written to the part of a buffer that lies behind a, which was written at its start: the part lent, and put back
+-- b written to the part of a buffer after a, which was written at its start: the part lent, and put back
 pub written-part : (a b out : List ℕ) → length a ≤ length out
     → putMid (length a) (length (written a out) - length a) (written a out) (written b (take (length (written a out) - length a) (drop (length a) (written a out)))) ≡ written (a ++ b) out
 written-part a b out h =
@@ -66,7 +66,7 @@ written-part a b out h =
     let d : drop (length a) (written a out) ≡ drop (length a) out = unfold written in drop-at a (drop (length a) out) (length a) refl in
     let w : take (length out - length a) (drop (length a) out) ≡ drop (length a) out = take-all (length out - length a) (drop (length a) out) (omega arith) in
     let z : drop (length out - length a) (drop (length a) out) ≡ [] = drop-of-length-le (drop (length a) out) {i = length out - length a} (omega arith) in
-    rw (n, t, d, w, z, append-nil (written b (drop (length a) out))) (written-behind a b out)
+    rw (n, t, d, w, z, append-nil (written b (drop (length a) out))) (written-after a b out)
 
 -- The packet of given fields and data.
 module _ (type cmd1 cmd2 flags : ℕ) (d : List ℕ) (h : length d ≤ 65535) where
@@ -110,21 +110,15 @@ module _ (type cmd1 cmd2 flags : ℕ) (d : List ℕ) (h : length d ≤ 65535) wh
 tail-split : (q : List ℕ) (m : ℕ) → length q ≡ m + 1 → q ≡ take m q ++ (getD q m 0 ∷ [])
 tail-split q m e = sym (take-all (suc m) q (omega arith)) ∙ take-suc q m 0 (omega arith)
 
-low-byte : (a b : ℕ) → a < 256 → (a + 256 * b) % 256 ≡ a
-low-byte a b h = omega arith
-
-high-part : (a b : ℕ) → a < 256 → (a + 256 * b) / 256 ≡ b
-high-part a b h = omega arith
-
 remade : (a0 a1 a2 a3 a4 a5 : ℕ) (q : List ℕ) → a4 < 256 → a5 < 256 → length q ≡ a4 + 256 * a5 + 1
     → rightSum (a0 ∷ a1 ∷ a2 ∷ a3 ∷ a4 ∷ a5 ∷ q) ≡ true
     → packetOf a0 a1 a2 a3 (payload (a0 ∷ a1 ∷ a2 ∷ a3 ∷ a4 ∷ a5 ∷ q)) ≡ a0 ∷ a1 ∷ a2 ∷ a3 ∷ a4 ∷ a5 ∷ q
 unfolding packetOf sealed bytesOf payload rightSum
 remade a0 a1 a2 a3 a4 a5 q h4 h5 l r =
-    let m : ℕ = a4 + 256 * a5 in
     let lt : length (take (a4 + 256 * a5) q) ≡ a4 + 256 * a5 = length-take-le (a4 + 256 * a5) q (omega arith) in
-    let e4 : (a4 + 256 * a5) % 256 ≡ a4 = low-byte a4 a5 h4 in
-    let e5 : (a4 + 256 * a5) / 256 % 256 ≡ a5 = ap (λ (n : ℕ). n % 256) (high-part a4 a5 h4) ∙ mod-eq-of-lt h5 in
+    let e4 : (a4 + 256 * a5) % 256 ≡ a4 = omega arith in
+    let q5 : (a4 + 256 * a5) / 256 ≡ a5 = omega arith in
+    let e5 : (a4 + 256 * a5) / 256 % 256 ≡ a5 = rw q5 (mod-eq-of-lt h5) in
     let k : 6 + (a4 + 256 * a5) ≡ suc (suc (suc (suc (suc (suc (a4 + 256 * a5)))))) = omega arith in
     let c : getD q (a4 + 256 * a5) 0 ≡ checksum (a0 ∷ a1 ∷ a2 ∷ a3 ∷ a4 ∷ a5 ∷ take (a4 + 256 * a5) q) = eqb-true _ _ (rw k at r) in
     rw (lt, e4, e5, ← c) (ap {B = List ℕ} (λ t. a0 ∷ a1 ∷ a2 ∷ a3 ∷ a4 ∷ a5 ∷ t) (sym (tail-split q (a4 + 256 * a5) l)))

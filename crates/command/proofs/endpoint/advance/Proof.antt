@@ -6,9 +6,7 @@ use Prim.Native.Nat.{ℕ, _≤_}
 use mathlib.Core.Bool.{true, false}
 use mathlib.Core.List.{List}
 use lib.ListN.{length}
-use Rattle.packet.specs.Receiver.{receiving}
-use Rattle.packet.specs.declared.receiver.Received.{Received}
-use Rattle.packet.proofs.ReceiverLent.{together, taken-is}
+use Rattle.packet.specs.Receiver.{Received, receivedOf, receiving}
 use Rattle.command.specs.Controller.{heldIn, inRule}
 use Rattle.command.specs.Inner.{controllerOf}
 use Rattle.command.specs.Endpoint.{judgedIn, responseIn, After, waiting, settled, receiveCall}
@@ -35,6 +33,10 @@ module _
   unfolding receiveCall responseIn judgedIn
   answers f = rw (le-ltb (length out) 64 l, r, ← e, f)
 
+-- where the function starts, seen from after the receiver's call
+abbrev start : tie.After-receive → tie.Start
+start t = t .before .before .before .before .before .before .before
+
 -- the controller as it came in
 abbrev came : tie.Start → Controller
 came s = controllerOf (s .args .p) (now (s .args .hold))
@@ -44,47 +46,39 @@ passed : (s : tie.Start) → inRule (came s) ≡ true
 unfolding inRule
 passed s = s .pre .0
 
--- a header has six bytes
-six : (s : tie.Start) → length (s .args .p .header) ≡ 6
-six s = search needs
-
--- what the receiver took of the input, and that the controller was in rule
-took : (c : tie.After-take)
-    → let s = c .before .before .before .before .before .before .before .before in
-    together (c .before .before .before .put-header .last .0) (c .take .last .1 .1 .1 .0) (c .take .result)
-    ≡ receiving (came s .receiver) (heldIn (s .args .p .transfer)) (now (s .args .input))
-took c =
-    let h = c .before .before .before in
-    let s = h .before .before .before .before .before in
-    let a = s .args in
-    taken-is (came s .receiver) (heldIn (a .p .transfer)) (now (a .input)) (six s) (h .put-header .ensures) (c .before .held .ensures) (c .take .ensures .0) (c .take .ensures .1)
+-- what the receiver took of the input
+took : (t : tie.After-receive)
+    → receivedOf (t .receive .result) (t .receive .last .0) (t .receive .last .1 .1 .1 .0)
+    ≡ receiving (came (start t) .receiver) (heldIn (start t .args .p .transfer)) (now (start t .args .input))
+took t =
+    t .receive .ensures
+    ∙ ap (λ (n : ℕ). receiving (came (start t) .receiver) n (now (start t .args .input))) (t .before .before .before .held .ensures)
 
 returns : tie.Need-returns
 returns c =
     let t = c .before .before in
-    let s = t .before .before .before .before .before .before .before .before in
-    let w = waits (came s) (now (s .args .input)) (now (s .args .out)) (s .pre .1) (passed s) (took t) (not-true (t .take .result .complete) (c .if1 .taken)) in
+    let s = start t in
+    let w = waits (came s) (now (s .args .input)) (now (s .args .out)) (s .pre .1) (passed s) (took t) (not-true (t .receive .result .complete) (c .if1 .taken)) in
     (sym (ap (λ (x : After). x .answer) w), sym (ap (λ (x : After). x .controller) w), sym (ap (λ (x : After). x .output) w))
 
 settle-requires : tie.Need-settle-requires
 settle-requires c κs =
-    let s = c .before .before .before .before .before .before .before .before .before .before .before .before .before in
-    let n : length (c .before .before .before .before .before .take .last .1 .1 .1 .0) ≡ 1024 = search needs in
-    (rule-parts (came s) (passed s) .transfer, n, search needs)
+    let t = c .before .before .before .before .before in
+    let n : length (t .receive .last .1 .1 .1 .0) ≡ 1024 = search needs in
+    (rule-parts (came (start t)) (passed (start t)) .transfer, n, search needs)
 
 returns-2 : tie.Need-returns-2
 returns-2 c =
     let e = c .before .before .settle .ensures in
     let k = c .before .before .before .before .before .before in
     let t = k .before .before in
-    let s = t .before .before .before .before .before .before .before .before in
-    let w = answers (came s) (now (s .args .input)) (now (s .args .out)) (s .pre .1) (passed s) (took t) (not-false (t .take .result .complete) (k .if1 .left)) in
+    let s = start t in
+    let w = answers (came s) (now (s .args .input)) (now (s .args .out)) (s .pre .1) (passed s) (took t) (not-false (t .receive .result .complete) (k .if1 .left)) in
     (e .0 ∙ sym (ap (λ (x : After). x .answer) w), e .1 ∙ sym (ap (λ (x : After). x .controller) w), e .2 ∙ sym (ap (λ (x : After). x .output) w))
 
 pub advance-spec : {M : Type 1} → statement M
 advance-spec =
     tie.close (tie.spec
-    (λ c κs. search needs)
     (λ c κs. search needs)
     (λ c κs. search needs)
     returns

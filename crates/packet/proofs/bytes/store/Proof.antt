@@ -5,11 +5,9 @@ use Prim.Native.Nat.{ℕ, _≤_, _-_, _+_, min}
 use native.Mathlib.Omega.{arith}
 use native.Mathlib.Nat.{add-zero}
 use lib.ListN.{length, drop, length-set, drop-of-length-le}
-use lib.Dec.{leb}
 use lib.Seq.{sets}
-use borrow.Author.Tests.{leb-true, leb-false}
 use borrow.Author.Needs.{needs}
-use Rattle.packet.proofs.Cases.{bool-cases}
+use Rattle.packet.proofs.Cases.{lt-cases}
 use Rattle.packet.proofs.bytes.Laws.{sets-more, sets-past}
 use Rattle.packet.proofs.bytes.store.Statement.{statement}
 use Rattle.packet.proofs.bytes.store.Tie as tie
@@ -21,26 +19,17 @@ Inv-loop into₀ at b n i₀ into i =
 abbrev μ-loop : tie.MeasureT-loop
 μ-loop into₀ at b n i₀ into i = n - i
 
--- behind the last of them nothing is stored: the bytes are at an end, or the room is
+-- after the last of them nothing is stored: the bytes are at an end, or the room is
 none-left : (into b : List ℕ) (at i : ℕ) → min (length into - at) (length b) ≤ i → sets into (at + i) (drop i b) ≡ into
 none-left into b at i h =
-    bool-cases (leb (length b) i)
-    (λ e. ap (sets into (at + i)) (drop-of-length-le b {i = i} (leb-true (length b) i e)))
-    (λ e. sets-past (drop i b) into (at + i) (omega (arith, leb-false (length b) i e)))
+    lt-cases i (length b)
+    (λ l. sets-past (drop i b) into (at + i) (omega arith))
+    (λ l. ap (sets into (at + i)) (drop-of-length-le b {i = i} l))
 
 loop-holds : tie.Need-loop-holds Inv-loop μ-loop
 loop-holds c =
     let a = c .before .before .before .before .args in
     (omega arith, rw (c .before .less .ensures) at (c .least .ensures), refl, ap (λ (n : ℕ). sets (a .into .now) n (a .b .now)) (sym (add-zero (a .at))))
-
-shared-slice-read-into : tie.Need-shared-slice-read-into Inv-loop μ-loop
-shared-slice-read-into c = omega (arith, c .before .before .loop .inv .1)
-
-add-into : tie.Need-add-into Inv-loop μ-loop
-add-into c = omega (arith, c .before .before .loop .inv .1)
-
-slice-write-into : tie.Need-slice-write-into Inv-loop μ-loop
-slice-write-into c = omega (arith, c .before .before .loop .inv .1, c .before .before .loop .inv .2)
 
 loop-again : tie.Need-loop-again Inv-loop μ-loop
 loop-again c =
@@ -67,9 +56,9 @@ store-spec =
     (λ c κs. search needs)
     (λ c κs. search needs)
     loop-holds
-    shared-slice-read-into
-    add-into
-    slice-write-into
+    (λ c. omega (arith, c .before .before .loop .inv .1))
+    (λ c. omega (arith, c .before .before .loop .inv .1))
+    (λ c. omega (arith, c .before .before .loop .inv .1, c .before .before .loop .inv .2))
     (λ c. search needs)
     (λ c. search needs)
     loop-again

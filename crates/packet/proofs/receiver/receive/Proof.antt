@@ -1,22 +1,64 @@
 -- `receive` meets its contract.
-use mathlib.Core.Path.{_≡_, refl}
+use mathlib.Core.Path.{_≡_, sym}
+use native.Mathlib.Omega.{arith}
 use denote.Ref.{now}
 use lib.ListN.{length}
-use Rattle.packet.proofs.receiver.Lent.{taken-is}
+use lib.Seq.{length-take-le}
+use Rattle.packet.specs.declared.receiver.Receiver.{Receiver}
+use Rattle.packet.specs.Receiver.{receiverOf}
+use Rattle.packet.proofs.receiver.Steps.{completes-so, waits-so}
 use borrow.Author.Needs.{needs}
 use Rattle.packet.proofs.receiver.receive.Statement.{statement}
 use Rattle.packet.proofs.receiver.receive.Tie as tie
 
+-- the receiver of the parts that came in
+abbrev came : tie.Start → Receiver
+came s = receiverOf (now (s .args .header)) (s .args .sum) (s .args .received) (now (s .args .hold))
+
+six : (h : tie.After-store-arg) → length (now (h .before .before .args .header)) ≡ 6
+six h = search needs
+
 returns : tie.Need-returns
 returns c =
-    let h = c .before .before .before in
-    let a = h .before .before .before .args in
-    let n : length (a .t1 .header) ≡ 6 = search needs in
-    taken-is (a .t1) (a .held) (now (a .input)) n (h .put-header .ensures) refl (c .take .ensures .0) (c .take .ensures .1)
+    let k = c .before .before in
+    let w = k .before .before in
+    let n = w .before .before in
+    let m = n .before in
+    let h = m .before .before .before .before in
+    let s = h .before .before .before in
+    completes-so (came s) (s .args .held) (now (s .args .input)) (six (h .before)) (h .store .ensures) (cc (m .before .word .ensures .0))
+    (n .least .ensures) (w .sum-with .ensures) (k .keep .ensures) (c .before .if1 .taken)
+
+returns-2 : tie.Need-returns-2
+returns-2 c =
+    let k = c .before in
+    let w = k .before .before in
+    let n = w .before .before in
+    let m = n .before in
+    let h = m .before .before .before .before in
+    let s = h .before .before .before in
+    waits-so (came s) (s .args .held) (now (s .args .input)) (six (h .before)) (h .store .ensures) (cc (m .before .word .ensures .0))
+    (n .least .ensures) (w .sum-with .ensures) (k .keep .ensures) (c .if1 .left)
 
 pub receive-spec : {M : Type 1} → statement M
 receive-spec =
-    tie.close (tie.spec
+    tie.close
+    (tie.spec
+    (λ c κs. search needs)
+    (λ c. search needs)
+    (λ c. search needs)
+    (λ c κs. search needs)
+    (λ c. search needs)
     (λ c κs. search needs)
     (λ c κs. search needs)
-    returns)
+    (λ c.
+    let k = c .before in
+    let s = k .before .before .before .before .before .before .before .before in
+    sym (length-take-le (k .least .result) (now (s .args .input)) (omega (arith, k .least .ensures))))
+    (λ c κs. search needs)
+    (λ c κs. search needs)
+    (λ c. search needs)
+    (λ c. search needs)
+    returns
+    (λ c. search needs)
+    returns-2)

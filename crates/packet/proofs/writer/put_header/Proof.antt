@@ -1,4 +1,4 @@
--- `put_header` meets its contract.
+-- `put_header` meets its contract: six stores, one after the other.
 use mathlib.Core.Path.{refl}
 use native.Mathlib.Omega.{arith}
 use lib.ListN.{length-set}
@@ -7,33 +7,18 @@ use borrow.Author.Needs.{needs}
 use Rattle.packet.proofs.writer.put_header.Statement.{statement}
 use Rattle.packet.proofs.writer.put_header.Tie as tie
 
-slice-write-out-2 : tie.Need-slice-write-out-2
-slice-write-out-2 c = simp length-set (omega arith)
-
-slice-write-out-3 : tie.Need-slice-write-out-3
-slice-write-out-3 c = simp length-set (omega arith)
-
-slice-write-out-4 : tie.Need-slice-write-out-4
-slice-write-out-4 c = simp length-set (omega arith)
-
-slice-write-out-5 : tie.Need-slice-write-out-5
-slice-write-out-5 c = simp length-set (omega arith)
-
-returns : tie.Need-returns
-unfolding bytesOf
-returns c = refl
-
 pub put-header-spec : {M : Type 1} → statement M
+unfolding bytesOf
 put-header-spec =
     tie.close
     (tie.spec
     (λ c. search needs)
-    slice-write-out-2
-    slice-write-out-3
-    slice-write-out-4
+    (λ c. simp length-set (omega arith))
+    (λ c. simp length-set (omega arith))
+    (λ c. simp length-set (omega arith))
     (λ c. search needs)
-    slice-write-out-5
+    (λ c. simp length-set (omega arith))
     (λ c. search needs)
     (λ c. search needs)
     (λ c. search needs)
-    returns)
+    (λ c. refl))

@@ -37,7 +37,7 @@ returns-3 c =
       rw e,
       rw e
           (s .seal .ensures
-          ∙ rw (p .put-payload .ensures, h .put-header .ensures, k)
+          ∙ rw (p .store .ensures, h .put-header .ensures, k)
           (sealed-front (header (a .kind) (a .cmd1) (a .cmd2) (a .flags) n ++ now (a .payload)) (now (a .out)) (omega arith))),
     )
 

@@ -1,0 +1,30 @@
+-- `keep` meets its contract.
+use mathlib.Core.Path.{_≡_, _∙_}
+use denote.Ref.{now}
+use lib.ListN.{length}
+use Rattle.packet.proofs.receiver.Steps.{payload-kept}
+use borrow.Author.Needs.{needs}
+use Rattle.packet.proofs.receiver.keep.Statement.{statement}
+use Rattle.packet.proofs.receiver.keep.Tie as tie
+
+returns : tie.Need-returns
+returns c =
+    let a = c .before .before .before .before .before .before .before .before .before .args in
+    let n : length (now (a .hold)) ≡ 1024 = search needs in
+    c .store .ensures ∙ payload-kept (now (a .hold)) (now (a .b)) (a .held) (a .received) n (cc) (cc)
+
+pub keep-spec : {M : Type 1} → statement M
+keep-spec =
+    tie.close
+    (tie.spec
+    (λ c κs. search needs)
+    (λ c κs. search needs)
+    (λ c κs. search needs)
+    (λ c κs. search needs)
+    (λ c κs. search needs)
+    (λ c. search needs)
+    (λ c. search needs)
+    (λ c. search needs)
+    (λ c. search needs)
+    (λ c κs. search needs)
+    returns)
