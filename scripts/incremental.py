@@ -68,7 +68,7 @@ class Crate:
         try:
             folder = copy / "target" / "inc" / self.name
             shutil.rmtree(folder, ignore_errors=True)
-            shutil.copytree(self.folder, folder)
+            subprocess.run(["cp", "-a", self.folder, folder], check=True)
             before = {}
             for path, text in texts.items():
                 file = copy / "crates" / self.name / path
