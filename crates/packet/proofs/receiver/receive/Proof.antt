@@ -8,7 +8,7 @@ use lib.Seq.{length-take-le}
 use Rattle.packet.specs.Packet.{payloadLength}
 use Rattle.packet.specs.declared.receiver.Receiver.{Receiver}
 use Rattle.packet.specs.Receiver.{receiverOf}
-use Rattle.packet.proofs.receiver.Steps.{completes-so, waits-so}
+use Rattle.packet.proofs.receiver.Steps.{receive-completes, receive-waits}
 use borrow.Author.Needs.{needs}
 use Rattle.packet.proofs.receiver.receive.Statement.{statement}
 use Rattle.packet.proofs.receiver.receive.Tie as tie
@@ -17,6 +17,7 @@ use Rattle.packet.proofs.receiver.receive.Tie as tie
 abbrev came : tie.Start → Receiver
 came s = receiverOf (now (s .args .header)) (s .args .sum) (s .args .received) (now (s .args .hold))
 
+-- a header has six bytes
 six : (h : tie.After-store-arg) → length (now (h .before .before .args .header)) ≡ 6
 six h = search needs
 
@@ -36,7 +37,7 @@ returns c =
     let m = n .before in
     let h = m .before .before .before .before in
     let s = h .before .before .before in
-    completes-so (came s) (s .args .held) (now (s .args .input)) (six (h .before)) (h .store .ensures) (before m)
+    receive-completes (came s) (s .args .held) (now (s .args .input)) (six (h .before)) (h .store .ensures) (before m)
     (n .least .ensures) (w .sum-with .ensures) (k .keep .ensures) (c .before .if1 .taken)
 
 returns-2 : tie.Need-returns-2
@@ -47,7 +48,7 @@ returns-2 c =
     let m = n .before in
     let h = m .before .before .before .before in
     let s = h .before .before .before in
-    waits-so (came s) (s .args .held) (now (s .args .input)) (six (h .before)) (h .store .ensures) (before m)
+    receive-waits (came s) (s .args .held) (now (s .args .input)) (six (h .before)) (h .store .ensures) (before m)
     (n .least .ensures) (w .sum-with .ensures) (k .keep .ensures) (c .if1 .left)
 
 pub receive-spec : {M : Type 1} → statement M
