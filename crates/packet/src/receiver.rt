@@ -60,6 +60,7 @@ fn keep(hold: &mut [u8; HOLD], held: usize, received: usize, b: &[u8])
     ensures { λ _. ⌜ now (hold .exit) ≡ sets (now (hold .entry)) (held + (received - 6)) (drop (6 - received) (now (b .entry))) ⌝ }
 {
     let skip = least(less(HEADER, received), b.len());
+    // Each part is cut at the hold's end, where nothing is stored, so that the sum cannot wrap.
     let at = least(held, HOLD) + least(less(received, HEADER), HOLD);
     store(hold, at, &b[skip..]);
 }
@@ -78,6 +79,8 @@ pub fn receive(
     ensures { λ t. ⌜ receivedOf t (now (header .exit)) (now (hold .exit)) ≡ receiving (receiverOf (now (header .entry)) sum received (now (hold .entry))) held (now (input .entry)) ⌝ }
 {
     store(header, received, input);
+    // How many bytes come before the checksum, and how many of these the input has. The header may
+    // not be complete yet: then the input ends before the checksum, whatever length it tells.
     let before = less(HEADER + word(header[4], header[5]), received);
     let n = least(before, input.len());
     let b = &input[..n];

@@ -178,7 +178,7 @@ first-byte : (r : Receiver) (held b : ℕ) (bs : List ℕ) → r .sum < 256
 unfolding completed
 first-byte r held b bs s = rw (with-nil r held s)
 
--- One byte of a call, as the code goes through its input.
+-- One byte of a call, for code that goes through its input byte by byte.
 module _ (r : Receiver) (held : ℕ) (xs : List ℕ) (i : ℕ) where
   pub take-byte : length (r .header) ≡ 6 → i < length xs → r .received < 6 + payloadLength (r .header)
       → receiving r held (drop i xs) ≡ after 1 (receiving (with r held (getD xs i 0 ∷ [])) held (drop (i + 1) xs))

@@ -58,10 +58,10 @@ module _
   unfolding missing
   missing-is = rw (← eh) (omega (arith, em))
 
-  pub waits-so : length b ≤ m
+  pub receive-waits : length b ≤ m
       → receivedOf (record { taken = n; complete = false; right = false; sum = s; received = r .received + n }) h d ≡ receiving r held b
   unfolding waiting with
-  waits-so l =
+  receive-waits l =
       let e : n ≡ length b = omega (arith, en) in
       let t : take n b ≡ b = take-all n b (omega arith) in
       rw (waits r held b (omega (arith, missing-is)), eh, es, ed, t, e)
@@ -74,10 +74,10 @@ module _
       ∙ ap (sets (r .header) (r .received)) (sym (take-append-drop m b))
       ∙ header-stays r (take m b) (drop m b) k (omega (arith, em, length-take-le m b (omega arith))))
 
-  pub completes-so : m < length b
+  pub receive-completes : m < length b
       → receivedOf (record { taken = m + 1; complete = true; right = eqb (getD b m 0) s; sum = 0; received = 0 }) h d ≡ receiving r held b
   unfolding completed with
-  completes-so l =
+  receive-completes l =
       let e : n ≡ m = omega (arith, en) in
       let f : m + 1 - 1 ≡ m = omega arith in
       rw (completes r held b (omega (arith, missing-is)), missing-is, f, header-whole l, es, ed, e)

@@ -1,12 +1,14 @@
 -- `receive` meets its contract.
-use mathlib.Core.Path.{_≡_, sym}
+use Prim.Native.Nat.{ℕ, _+_, _-_}
+use mathlib.Core.Path.{_≡_, sym, ap, _∙_}
 use native.Mathlib.Omega.{arith}
 use denote.Ref.{now}
 use lib.ListN.{length}
 use lib.Seq.{length-take-le}
+use Rattle.packet.specs.Packet.{payloadLength}
 use Rattle.packet.specs.declared.receiver.Receiver.{Receiver}
 use Rattle.packet.specs.Receiver.{receiverOf}
-use Rattle.packet.proofs.receiver.Steps.{completes-so, waits-so}
+use Rattle.packet.proofs.receiver.Steps.{receive-completes, receive-waits}
 use borrow.Author.Needs.{needs}
 use Rattle.packet.proofs.receiver.receive.Statement.{statement}
 use Rattle.packet.proofs.receiver.receive.Tie as tie
@@ -15,8 +17,17 @@ use Rattle.packet.proofs.receiver.receive.Tie as tie
 abbrev came : tie.Start → Receiver
 came s = receiverOf (now (s .args .header)) (s .args .sum) (s .args .received) (now (s .args .hold))
 
+-- a header has six bytes
 six : (h : tie.After-store-arg) → length (now (h .before .before .args .header)) ≡ 6
 six h = search needs
+
+-- how many bytes come before the checksum
+before : (m : tie.After-less)
+    → let h = m .before .before .before .before in
+    m .less .result ≡ 6 + payloadLength (h .store .last .0) - h .before .before .before .args .received
+before m =
+    let s = m .before .before .before .before .before .before .before in
+    m .less .ensures ∙ ap (λ (n : ℕ). 6 + n - s .args .received) (m .before .word .ensures .0)
 
 returns : tie.Need-returns
 returns c =
@@ -26,7 +37,7 @@ returns c =
     let m = n .before in
     let h = m .before .before .before .before in
     let s = h .before .before .before in
-    completes-so (came s) (s .args .held) (now (s .args .input)) (six (h .before)) (h .store .ensures) (cc (m .before .word .ensures .0))
+    receive-completes (came s) (s .args .held) (now (s .args .input)) (six (h .before)) (h .store .ensures) (before m)
     (n .least .ensures) (w .sum-with .ensures) (k .keep .ensures) (c .before .if1 .taken)
 
 returns-2 : tie.Need-returns-2
@@ -37,7 +48,7 @@ returns-2 c =
     let m = n .before in
     let h = m .before .before .before .before in
     let s = h .before .before .before in
-    waits-so (came s) (s .args .held) (now (s .args .input)) (six (h .before)) (h .store .ensures) (cc (m .before .word .ensures .0))
+    receive-waits (came s) (s .args .held) (now (s .args .input)) (six (h .before)) (h .store .ensures) (before m)
     (n .least .ensures) (w .sum-with .ensures) (k .keep .ensures) (c .if1 .left)
 
 pub receive-spec : {M : Type 1} → statement M
