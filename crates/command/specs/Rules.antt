@@ -11,7 +11,7 @@ use Rattle.command.specs.declared.settings.Settings.{Settings}
 use Rattle.command.specs.Settings.{valuesOf}
 
 -- n is one of these
-unfoldable pub oneOf : ℕ → List ℕ → Bool
+abbrev pub oneOf : ℕ → List ℕ → Bool
 oneOf n [] = false
 oneOf n (x ∷ xs) = eqb n x || oneOf n xs
 
@@ -26,12 +26,12 @@ pairs =
     ∷ (480, 800) ∷ (800, 480) ∷ (480, 852) ∷ (852, 480) ∷ (480, 853) ∷ (853, 480) ∷ (480, 854) ∷ (854, 480) ∷ (864, 480) ∷ (720, 240) ∷ (720, 288) ∷ (360, 640)
     ∷ (640, 360) ∷ (608, 684) ∷ []
 
-unfoldable pub listed : ℕ → ℕ → List (ℕ × ℕ) → Bool
+abbrev pub listed : ℕ → ℕ → List (ℕ × ℕ) → Bool
 listed x y [] = false
 listed x y (p ∷ ps) = eqb x (p .0) && eqb y (p .1) || listed x y ps
 
 -- The column "allowed": the values of a command's fields, in layout order, are allowed.
-unfoldable pub allowed : Command → List ℕ → Bool
+abbrev pub allowed : Command → List ℕ → Bool
 -- 0, 1, 2, 4
 allowed DisplayMode v = oneOf (getD v 0 0) (0 ∷ 1 ∷ 2 ∷ 4 ∷ [])
 -- 0 to 13

@@ -1,6 +1,7 @@
-// The allowed values, a function for each line of the table.
+// The column "allowed" of the table of commands, a function for each line, and what follows from it for a write and for the settings.
 use crate::settings::DisplaySetting;
 use crate::settings::LedCurrent;
+use crate::settings::PATTERN_SEQUENCE_MODE;
 use crate::settings::PatternSequence;
 use crate::settings::Settings;
 use crate::settings::StaticColour;
@@ -17,7 +18,7 @@ ghost use Rattle.command.specs.Value.{commandIn, valuesIn};
 pub(crate) fn display_mode(m: u8) -> bool
     ensures { λ r. ⌜ r ≡ allowedIn command.DisplayMode (m ∷ []) ⌝ }
 {
-    (m == 0) | ((m == 1) | ((m == 2) | ((m == 4) | false)))
+    (m == 0) | (m == 1) | (m == 2) | (m == 4)
 }
 
 pub(crate) fn test_pattern(p: u8) -> bool
@@ -84,7 +85,7 @@ pub(crate) fn video_mode(q: VideoMode) -> bool
     ensures { λ r. ⌜ r ≡ allowedIn command.VideoMode (videoValues q) ⌝ }
 {
     let f = q.rate;
-    ((f == 15) | ((f == 30) | ((f == 40) | ((f == 50) | ((f == 60) | false)))))
+    ((f == 15) | (f == 30) | (f == 40) | (f == 50) | (f == 60))
         & ((1 <= q.depth) & (q.depth <= 8))
         & ((1 <= q.led) & (q.led <= 4))
 }
@@ -127,7 +128,7 @@ pub(crate) fn blocked(v: Value, mode: u8) -> bool
     ensures { λ r. ⌜ r ≡ blockedIn (commandIn v) (valuesIn v) mode ⌝ }
 {
     match v {
-        Value::SequenceRun(r) => (r == 1) & !(mode == 4),
+        Value::SequenceRun(r) => (r == 1) & (mode != PATTERN_SEQUENCE_MODE),
         _ => false,
     }
 }
@@ -136,14 +137,14 @@ pub(crate) fn blocked(v: Value, mode: u8) -> bool
 pub(crate) fn settings_in_rule(s: Settings) -> bool
     ensures { λ r. ⌜ r ≡ settingsInRule s ⌝ }
 {
-    let a = display_mode(s.mode);
-    let b = test_pattern(s.pattern);
-    let c = led_current(s.current);
-    let d = static_colour(s.colour);
-    let e = display_setting(s.setting);
-    let f = video_input(s.input);
-    let g = video_mode(s.video);
-    let h = pattern_sequence(s.sequence);
-    let i = sequence_run(s.run);
-    (a & (b & (c & (d & (e & (f & (g & (h & (i & true))))))))) & !((s.run == 1) & !(s.mode == 4))
+    display_mode(s.mode)
+        & test_pattern(s.pattern)
+        & led_current(s.current)
+        & static_colour(s.colour)
+        & display_setting(s.setting)
+        & video_input(s.input)
+        & video_mode(s.video)
+        & pattern_sequence(s.sequence)
+        & sequence_run(s.run)
+        & !blocked(Value::SequenceRun(s.run), s.mode)
 }

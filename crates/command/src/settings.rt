@@ -5,6 +5,9 @@ ghost use mathlib.Core.Path.{_≡_};
 ghost use Rattle.command.specs.Settings.{factory as factoryOf, store as storeIn, valuesOf};
 ghost use Rattle.command.specs.Value.{commandIn, valuesIn, valueFrom};
 
+// The display mode in which a sequence can run.
+pub(crate) const PATTERN_SEQUENCE_MODE: u8 = 4;
+
 // LED drive, in counts.
 #[repr(C)]
 pub struct Drive(pub u16);
@@ -190,7 +193,7 @@ pub(crate) fn stored(s: Settings, v: Value) -> Settings
     match v {
         Value::DisplayMode(m) => {
             t.mode = m;
-            if m != 4 {
+            if m != PATTERN_SEQUENCE_MODE {
                 t.run = 0;
             }
         }
