@@ -55,34 +55,27 @@ impl Command {
     pub fn find(cmd1: u8, cmd2: u8) -> Found
         ensures { λ r. ⌜ r ≡ commandOf cmd1 cmd2 ⌝ }
     {
-        if (cmd1 == 0x01) & (cmd2 == 0x01) {
-            return Found::Known(Command::DisplayMode);
+        match cmd1 {
+            0x01 => match cmd2 {
+                0x01 => Found::Known(Command::DisplayMode),
+                0x03 => Found::Known(Command::TestPattern),
+                0x04 => Found::Known(Command::LedCurrent),
+                0x06 => Found::Known(Command::StaticColour),
+                0x07 => Found::Known(Command::DisplaySetting),
+                _ => Found::Unknown,
+            },
+            0x02 => match cmd2 {
+                0x00 => Found::Known(Command::VideoInput),
+                0x01 => Found::Known(Command::VideoMode),
+                _ => Found::Unknown,
+            },
+            0x04 => match cmd2 {
+                0x00 => Found::Known(Command::PatternSequence),
+                0x02 => Found::Known(Command::SequenceRun),
+                _ => Found::Unknown,
+            },
+            _ => Found::Unknown,
         }
-        if (cmd1 == 0x01) & (cmd2 == 0x03) {
-            return Found::Known(Command::TestPattern);
-        }
-        if (cmd1 == 0x01) & (cmd2 == 0x04) {
-            return Found::Known(Command::LedCurrent);
-        }
-        if (cmd1 == 0x01) & (cmd2 == 0x06) {
-            return Found::Known(Command::StaticColour);
-        }
-        if (cmd1 == 0x01) & (cmd2 == 0x07) {
-            return Found::Known(Command::DisplaySetting);
-        }
-        if (cmd1 == 0x02) & (cmd2 == 0x00) {
-            return Found::Known(Command::VideoInput);
-        }
-        if (cmd1 == 0x02) & (cmd2 == 0x01) {
-            return Found::Known(Command::VideoMode);
-        }
-        if (cmd1 == 0x04) & (cmd2 == 0x00) {
-            return Found::Known(Command::PatternSequence);
-        }
-        if (cmd1 == 0x04) & (cmd2 == 0x02) {
-            return Found::Known(Command::SequenceRun);
-        }
-        Found::Unknown
     }
 
     // CMD1 and CMD2.

@@ -1,8 +1,11 @@
 -- Laws of a command with its values.
 use Prim.Native.Nat.{ℕ}
-use mathlib.Core.Path.{_≡_, refl}
+use mathlib.Core.Path.{_≡_, refl, subst}
 use mathlib.Core.List.{List}
 use lib.ListN.{length}
+use denote.Enum.Declared.{tagOf}
+use Rattle.command.proofs.table.Command.{the-type as command-type}
+use Rattle.command.proofs.value.Value.{the-type as value-type}
 use Rattle.command.specs.Table.{layout}
 use Rattle.command.specs.Settings.{valuesOf}
 use Rattle.command.specs.declared.settings.Settings.{Settings}
@@ -43,3 +46,9 @@ pub data-from : (c : Command) (s : Settings) → dataIn (valueFrom c (valuesOf c
 unfolding dataIn dataOf
 data-from c s =
     each (λ c. dataIn (valueFrom c (valuesOf c s)) ≡ dataOf c s) (refl, refl, refl, refl, refl, refl, refl, refl, refl) c
+
+-- a match on a value goes by its command
+pub tag-value : (v : Value) → tagOf value-type v ≡ tagOf command-type (commandIn v)
+tag-value v =
+    subst (λ (w : Value). tagOf value-type w ≡ tagOf command-type (commandIn w)) (value-from v)
+    (each (λ c. tagOf value-type (valueFrom c (valuesIn v)) ≡ tagOf command-type (commandIn (valueFrom c (valuesIn v)))) (refl, refl, refl, refl, refl, refl, refl, refl, refl) (commandIn v))
