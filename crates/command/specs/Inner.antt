@@ -1,9 +1,9 @@
 -- An open transfer by the controller's numbers: its held data are the first bytes of the hold.
-use Prim.Native.Nat.{ℕ, _+_, _≤_}
+use Prim.Native.Nat.{ℕ, zero, suc, _+_, _*_, _≤_}
 use mathlib.Core.Bool.{Bool, false, cond, not, _&&_}
-use mathlib.Core.List.{List}
+use mathlib.Core.List.{List, [], _∷_, _++_}
 use lib.Dec.{eqb}
-use lib.ListN.{take, length}
+use lib.ListN.{take, length, getD}
 use Rattle.command.specs.Table.{hasCode}
 use Rattle.command.specs.declared.table.Found.{Found}
 use Rattle.command.specs.declared.table.Found.the-variants.{Known, Unknown}
@@ -14,6 +14,7 @@ use Rattle.command.specs.declared.controller.Controller.{Controller}
 use Rattle.command.specs.declared.controller.Parts.{Parts}
 use mathlib.Core.Path.{_≡_}
 use Rattle.command.specs.declared.data.Data.{Data}
+use Rattle.packet.specs.Number.{bytesOf}
 use Rattle.packet.specs.Writer.{fits}
 
 abbrev pub isOpenIn : TransferState → Bool
@@ -46,6 +47,22 @@ controllerOf p hold =
 -- what refusal 3 lets pass, by the parts
 abbrev pub partsInRule : Parts → Bool
 partsInRule p = settingsInRule (p .settings) && transferInRule (p .transfer) && packetInRule (p .header) (p .received)
+
+-- the number in the w bytes of d from a place on: valueOf of them (law number-at of data/Laws)
+abbrev pub numberAt : ℕ → List ℕ → ℕ → ℕ
+numberAt zero d at = 0
+numberAt (suc w) d at = getD d at 0 + 256 * numberAt w d (at + 1)
+
+-- the fields of d from a place on, by their widths: splitAll where the place is 0 (law split-places of data/Laws)
+abbrev pub splitFrom : ℕ → List ℕ → List ℕ → List ℕ
+splitFrom at [] d = []
+splitFrom at (w ∷ ws) d = numberAt w d at ∷ splitFrom (at + w) ws d
+
+-- d with the bytes of the numbers appended, by their widths: joinAll where d is empty (law join-onto of data/Laws)
+abbrev pub joinOnto : List ℕ → List ℕ → List ℕ → List ℕ
+joinOnto d [] vs = d
+joinOnto d (w ∷ ws) [] = d
+joinOnto d (w ∷ ws) (v ∷ vs) = joinOnto (d ++ bytesOf w v) ws vs
 
 -- those that count
 abbrev pub contents : Data → List ℕ

@@ -1,7 +1,9 @@
 -- Laws of data laid out in fields.
 use Prim.Native.Nat.{ℕ, suc, _≤_, zero, _+_, _*_}
 use mathlib.Core.Path.{_≡_, refl, ap, ap₂, sym, _∙_}
-use mathlib.Core.List.{List, [], _∷_}
+use mathlib.Core.List.{List, [], _∷_, _++_, append-nil, append-assoc}
+use native.Mathlib.Nat.{add-zero, add-suc, suc-add}
+use native.Mathlib.Numerals.{add-one}
 use native.Mathlib.Omega.{arith}
 use lib.ListN.{length, take, drop, length-append, take-append-drop, length-drop, getD}
 use lib.Seq.{take-at, drop-at, length-take-le, drop-drop, getD-drop}
@@ -10,6 +12,8 @@ use Rattle.packet.specs.Packet.{sum}
 use Rattle.packet.proofs.NumberLaws.{bytes-append, bytes-take, bytes-drop, value-bytes, length-bytes, bytes-bytes, bytes-value, value-bound}
 use Rattle.command.proofs.table.Laws.{Fit}
 use Rattle.command.specs.Data.{splitAll, joinAll}
+use Rattle.command.specs.Inner.{Holds, numberAt, splitFrom, joinOnto}
+use Rattle.command.specs.declared.data.Data.{Data}
 
 pub split-length : (ws d : List ℕ) → length (splitAll ws d) ≡ length ws
 unfolding splitAll
@@ -74,12 +78,26 @@ value-first (suc w) (b ∷ d) = ap (λ n. b + 256 * n) (value-first w d)
 pub value-places : (w : ℕ) (d : List ℕ) (at : ℕ) → valueOf (take w (drop at d)) ≡ valueBy w (λ k. getD d (at + k) 0)
 value-places w d at = value-first w (drop at d) ∙ simp getD-drop
 
--- the fields of d, by their places
-unfoldable pub splitFrom : ℕ → List ℕ → List ℕ → List ℕ
-splitFrom at [] d = []
-splitFrom at (w ∷ ws) d = valueOf (take w (drop at d)) ∷ splitFrom (at + w) ws d
+-- what byte_at, word_at and long_at read
+pub number-at : (w : ℕ) (d : List ℕ) (at : ℕ) → numberAt w d at ≡ valueOf (take w (drop at d))
+number-at w d at = by-places w at ∙ sym (value-places w d at)
+  where
+    by-places : (w at : ℕ) → numberAt w d at ≡ valueBy w (λ k. getD d (at + k) 0)
+    by-places zero at = refl
+    by-places (suc w) at = rw (by-places w (at + 1)) (simp (add-zero, add-one, add-suc, suc-add))
 
-pub split-places : (ws : List ℕ) (at : ℕ) (d : List ℕ) → splitAll ws (drop at d) ≡ splitFrom at ws d
-unfolding splitFrom splitAll
+-- the fields of d, by their places
+pub split-places : (ws : List ℕ) (at : ℕ) (d : List ℕ) → splitFrom at ws d ≡ splitAll ws (drop at d)
+unfolding splitAll
 split-places [] at d = refl
-split-places (w ∷ ws) at d = ap {B = List ℕ} (λ t. valueOf (take w (drop at d)) ∷ t) (ap (splitAll ws) (drop-drop w at d) ∙ split-places ws (at + w) d)
+split-places (w ∷ ws) at d = ap₂ {C = List ℕ} (λ a b. a ∷ b) (number-at w d at) (split-places ws (at + w) d ∙ ap (splitAll ws) (sym (drop-drop w at d)))
+
+-- the bytes of the numbers, appended one after the other
+pub join-onto : (d ws vs : List ℕ) → joinOnto d ws vs ≡ d ++ joinAll ws vs
+unfolding joinAll
+join-onto d [] vs = sym (append-nil d)
+join-onto d (w ∷ ws) [] = sym (append-nil d)
+join-onto d (w ∷ ws) (v ∷ vs) = join-onto (d ++ bytesOf w v) ws vs ∙ append-assoc d (bytesOf w v) (joinAll ws vs)
+
+pub holds-join : (r : Data) (ws vs : List ℕ) → Holds r (joinOnto [] ws vs) → Holds r (joinAll ws vs)
+holds-join r ws vs h = rw (join-onto [] ws vs) at h

@@ -3,9 +3,10 @@ use mathlib.Core.Path.{ap, sym, _∙_}
 use borrow.Author.Tests.{eq-eqb, ne-eqb}
 use denote.Ref.{now}
 use lib.ListN.{length}
-use Rattle.command.specs.Table.{sizeOf}
-use Rattle.command.specs.Value.{parsed}
+use Rattle.command.specs.Table.{layout, sizeOf}
+use Rattle.command.specs.Value.{valueFrom, parsed}
 use Rattle.command.specs.declared.value.Parsed.the-variants.{Values}
+use Rattle.command.proofs.data.Laws.{split-places}
 use borrow.Author.Needs.{needs}
 use Rattle.command.proofs.value.parse.Statement.{statement}
 use Rattle.command.proofs.value.parse.Tie as tie
@@ -24,7 +25,7 @@ unfolding parsed
 returns-2 c =
     let t = c .before in
     let a = t .before .before .before .args in
-    rw (eq-eqb (length (now (a .d))) (sizeOf (a .c)) (t .if1 .left ∙ t .before .size .ensures)) (ap Values (c .from .ensures))
+    rw (eq-eqb (length (now (a .d))) (sizeOf (a .c)) (t .if1 .left ∙ t .before .size .ensures)) (ap Values (c .from .ensures ∙ ap (valueFrom (a .c)) (split-places (layout (a .c)) 0 (now (a .d)))))
 
 pub parse-spec : {M : Type 1} → statement M
 parse-spec =
