@@ -2,14 +2,13 @@
 use Prim.Native.Nat.{ℕ, suc, _≤_, zero, _+_, _*_}
 use mathlib.Core.Path.{_≡_, refl, ap, ap₂, sym, _∙_}
 use mathlib.Core.List.{List, [], _∷_, _++_, append-nil, append-assoc}
-use native.Mathlib.Nat.{add-zero, add-suc, suc-add}
-use native.Mathlib.Numerals.{add-one}
+use native.Mathlib.Nat.{add-zero}
 use native.Mathlib.Omega.{arith}
 use lib.ListN.{length, take, drop, length-append, take-append-drop, length-drop, getD}
 use lib.Seq.{take-at, drop-at, length-take-le, drop-drop, getD-drop}
 use Rattle.packet.specs.Number.{valueOf, bytesOf, Bytes}
 use Rattle.packet.specs.Packet.{sum}
-use Rattle.packet.proofs.NumberLaws.{bytes-append, bytes-take, bytes-drop, value-bytes, length-bytes, bytes-bytes, bytes-value, value-bound}
+use Rattle.packet.proofs.NumberLaws.{bytes-take, bytes-drop, value-bytes, length-bytes, bytes-value, value-bound}
 use Rattle.command.proofs.table.Laws.{Fit}
 use Rattle.command.specs.Data.{splitAll, joinAll}
 use Rattle.command.specs.Inner.{Holds, numberAt, splitFrom, joinOnto}
@@ -36,12 +35,6 @@ length-join [] vs h = refl
 length-join (w ∷ ws) [] h = absurd (omega arith)
 length-join (w ∷ ws) (v ∷ vs) h = simp (length-append, length-bytes, length-join ws vs (omega arith))
 
-pub bytes-join : (ws vs : List ℕ) → Bytes (joinAll ws vs)
-unfolding joinAll
-bytes-join [] vs = tt
-bytes-join (w ∷ ws) [] = tt
-bytes-join (w ∷ ws) (v ∷ vs) = bytes-append (bytesOf w v) (joinAll ws vs) (bytes-bytes w v) (bytes-join ws vs)
-
 pub fit-split : (ws d : List ℕ) → Bytes d → sum ws ≤ length d → Fit ws (splitAll ws d)
 unfolding splitAll sum
 fit-split [] d h l = tt
@@ -59,32 +52,18 @@ join-split (w ∷ ws) d h l =
     let f : bytesOf w (valueOf (take w d)) ≡ take w d = rw e at (bytes-value (take w d) (bytes-take w d h)) in
     rw (f, join-split ws (drop w d) (bytes-drop w d h) (simp length-drop (omega arith))) (take-append-drop w d)
 
--- the number of so many bytes, each by its place
-abbrev pub valueBy : ℕ → (ℕ → ℕ) → ℕ
-valueBy zero f = 0
-valueBy (suc w) f = f 0 + 256 * valueBy w (λ k. f (suc k))
-
-no-value : (w : ℕ) → valueBy w (λ k. 0) ≡ 0
-no-value zero = refl
-no-value (suc w) = let i = no-value w in omega arith
-
-value-first : (w : ℕ) (d : List ℕ) → valueOf (take w d) ≡ valueBy w (λ k. getD d k 0)
+-- the first of the bytes, then the others
+value-next : (w : ℕ) (d : List ℕ) → valueOf (take (suc w) d) ≡ getD d 0 0 + 256 * valueOf (take w (drop 1 d))
 unfolding valueOf
-value-first zero d = refl
-value-first (suc w) [] = sym (no-value (suc w))
-value-first (suc w) (b ∷ d) = ap (λ n. b + 256 * n) (value-first w d)
-
--- the number in the w bytes of d from a place on
-pub value-places : (w : ℕ) (d : List ℕ) (at : ℕ) → valueOf (take w (drop at d)) ≡ valueBy w (λ k. getD d (at + k) 0)
-value-places w d at = value-first w (drop at d) ∙ simp getD-drop
+value-next zero [] = refl
+value-next (suc w) [] = refl
+value-next w (b ∷ d) = refl
 
 -- what byte_at, word_at and long_at read
 pub number-at : (w : ℕ) (d : List ℕ) (at : ℕ) → numberAt w d at ≡ valueOf (take w (drop at d))
-number-at w d at = by-places w at ∙ sym (value-places w d at)
-  where
-    by-places : (w at : ℕ) → numberAt w d at ≡ valueBy w (λ k. getD d (at + k) 0)
-    by-places zero at = refl
-    by-places (suc w) at = rw (by-places w (at + 1)) (simp (add-zero, add-one, add-suc, suc-add))
+unfolding valueOf
+number-at zero d at = refl
+number-at (suc w) d at = rw (number-at w d (at + 1)) (sym (value-next w (drop at d) ∙ simp (getD-drop, add-zero, drop-drop)))
 
 -- the fields of d, by their places
 pub split-places : (ws : List ℕ) (at : ℕ) (d : List ℕ) → splitFrom at ws d ≡ splitAll ws (drop at d)

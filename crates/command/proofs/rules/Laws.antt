@@ -9,7 +9,7 @@ use borrow.Author.Tests.{not-true}
 use lib.ListN.{length, getD}
 use Rattle.packet.proofs.Cases.{cond-cases, and-left, and-right, and-both}
 use Rattle.command.specs.Table.{table, same, layout}
-use Rattle.command.specs.Rules.{oneOf, listed, allowed, blocked, allAllowed, settingsInRule}
+use Rattle.command.specs.Rules.{allowed, blocked, allAllowed, settingsInRule}
 use Rattle.command.specs.Settings.{valuesOf, factory, valuesAfter, store}
 use Rattle.command.specs.declared.settings.Settings.{Settings}
 use Rattle.command.specs.declared.table.Command.{Command}
@@ -112,15 +112,18 @@ stopped false r = refl
 running-after : (c : Command) (v : List ℕ) (s : Settings) → Kept s → blocked c v (s .mode) ≡ false
     → blocked SequenceRun (valuesOf SequenceRun (store c v s)) (store c v s .mode) ≡ false
 unfolding store valuesAfter blocked
-running-after DisplayMode v s k f = stopped (eqb (getD v 0 0) 4) (s .run)
-running-after TestPattern v s k f = k .running
-running-after LedCurrent v s k f = k .running
-running-after StaticColour v s k f = k .running
-running-after DisplaySetting v s k f = k .running
-running-after VideoInput v s k f = k .running
-running-after VideoMode v s k f = k .running
-running-after PatternSequence v s k f = k .running
-running-after SequenceRun v s k f = f
+running-after c v s k =
+    each (λ c. blocked c v (s .mode) ≡ false → blocked SequenceRun (valuesOf SequenceRun (store c v s)) (store c v s .mode) ≡ false) (
+      (λ f. stopped (eqb (getD v 0 0) 4) (s .run)),
+      (λ f. k .running),
+      (λ f. k .running),
+      (λ f. k .running),
+      (λ f. k .running),
+      (λ f. k .running),
+      (λ f. k .running),
+      (λ f. k .running),
+      (λ f. f),
+    ) c
 
 -- the settings keep the rules after such a write
 pub kept-store : (c : Command) (v : List ℕ) (s : Settings) → Kept s → Writable (s .mode) c v → Kept (store c v s)
@@ -128,7 +131,7 @@ kept-store c v s k w =
     record {
       values = λ e.
           subst (λ (x : List ℕ). allowed e x ≡ true) (sym (values-store c v s (w .full) e))
-          (after-cases (λ e x. allowed e x ≡ true) c v s (w .values) (unfold allowed in refl) (k .values) e);
+          (after-cases (λ e x. allowed e x ≡ true) c v s (w .values) refl (k .values) e);
       running = running-after c v s k (w .free);
     }
 
@@ -139,7 +142,7 @@ fits-store c v s k w e =
 
 -- the factory values do
 pub kept-factory : Kept factory
-unfolding factory allowed blocked oneOf listed
+unfolding factory blocked
 kept-factory =
     record {
       values = each (λ c. allowed c (valuesOf c factory) ≡ true) (refl, refl, refl, refl, refl, refl, refl, refl, refl);

@@ -91,12 +91,6 @@ fit-length (w ∷ ws) (v ∷ vs) h = ap suc (fit-length ws vs (h .1))
 
 -- settings made from lists of values have those values
 pub values-settings : (c : Command) (f : Command → List ℕ) → length (f c) ≡ length (layout c) → valuesOf c (settingsOf f) ≡ f c
-values-settings DisplayMode f h = full 1 (f DisplayMode) h
-values-settings TestPattern f h = full 1 (f TestPattern) h
-values-settings LedCurrent f h = full 3 (f LedCurrent) h
-values-settings StaticColour f h = full 4 (f StaticColour) h
-values-settings DisplaySetting f h = full 3 (f DisplaySetting) h
-values-settings VideoInput f h = full 6 (f VideoInput) h
-values-settings VideoMode f h = full 3 (f VideoMode) h
-values-settings PatternSequence f h = full 8 (f PatternSequence) h
-values-settings SequenceRun f h = full 1 (f SequenceRun) h
+values-settings c f h =
+    each (λ c. valuesOf c (settingsOf f) ≡ tab (length (layout c)) (λ i. getD (f c) i 0)) (refl, refl, refl, refl, refl, refl, refl, refl, refl) c
+    ∙ full (length (layout c)) (f c) h
