@@ -48,6 +48,11 @@ controllerOf p hold =
 abbrev pub partsInRule : Parts → Bool
 partsInRule p = settingsInRule (p .settings) && transferInRule (p .transfer) && packetInRule (p .header) (p .received)
 
+-- the size of data of these widths: sizeOf of a command's layout (law size-layout of data/Laws)
+abbrev pub total : List ℕ → ℕ
+total [] = 0
+total (w ∷ ws) = w + total ws
+
 -- the number in the w bytes of d from a place on: valueOf of them (law number-at of data/Laws)
 abbrev pub numberAt : ℕ → List ℕ → ℕ → ℕ
 numberAt zero d at = 0

@@ -35,8 +35,8 @@ const ROOM: usize = 17;
 
 // Data that are put together: the first bytes count.
 pub(crate) struct Data {
-    pub bytes: [u8; ROOM],
-    pub length: usize,
+    pub(crate) bytes: [u8; ROOM],
+    pub(crate) length: usize,
 }
 
 impl Data {

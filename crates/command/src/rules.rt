@@ -15,38 +15,38 @@ ghost use Rattle.command.specs.Rules.{allowed as allowedIn, blocked as b
 ghost use Rattle.command.specs.declared.table.Command.the-variants as command;
 ghost use Rattle.command.specs.Value.{commandIn, valuesIn};
 
-pub(crate) fn display_mode(m: u8) -> bool
+fn display_mode(m: u8) -> bool
     ensures { λ r. ⌜ r ≡ allowedIn command.DisplayMode (m ∷ []) ⌝ }
 {
     (m == 0) | (m == 1) | (m == 2) | (m == 4)
 }
 
-pub(crate) fn test_pattern(p: u8) -> bool
+fn test_pattern(p: u8) -> bool
     ensures { λ r. ⌜ r ≡ allowedIn command.TestPattern (p ∷ []) ⌝ }
 {
     p <= 13
 }
 
-pub(crate) fn led_current(q: LedCurrent) -> bool
+fn led_current(q: LedCurrent) -> bool
     ensures { λ r. ⌜ r ≡ allowedIn command.LedCurrent (currentValues q) ⌝ }
 {
     (q.red.0 <= 1024) & (q.green.0 <= 1024) & (q.blue.0 <= 1024)
 }
 
-pub(crate) fn static_colour(q: StaticColour) -> bool
+fn static_colour(q: StaticColour) -> bool
     ensures { λ r. ⌜ r ≡ allowedIn command.StaticColour (colourValues q) ⌝ }
 {
     q.last == 0
 }
 
-pub(crate) fn display_setting(q: DisplaySetting) -> bool
+fn display_setting(q: DisplaySetting) -> bool
     ensures { λ r. ⌜ r ≡ allowedIn command.DisplaySetting (settingValues q) ⌝ }
 {
     (q.long <= 1) & (q.short <= 1) & (q.rotate <= 1)
 }
 
 // X and Y are a listed pair; the pairs stand in the order of the table, from its end.
-pub(crate) fn video_input(q: VideoInput) -> bool
+fn video_input(q: VideoInput) -> bool
     ensures { λ r. ⌜ r ≡ allowedIn command.VideoInput (inputValues q) ⌝ }
 {
     let x = q.x;
@@ -81,7 +81,7 @@ pub(crate) fn video_input(q: VideoInput) -> bool
     listed
 }
 
-pub(crate) fn video_mode(q: VideoMode) -> bool
+fn video_mode(q: VideoMode) -> bool
     ensures { λ r. ⌜ r ≡ allowedIn command.VideoMode (videoValues q) ⌝ }
 {
     let f = q.rate;
@@ -90,7 +90,7 @@ pub(crate) fn video_mode(q: VideoMode) -> bool
         & ((1 <= q.led) & (q.led <= 4))
 }
 
-pub(crate) fn pattern_sequence(q: PatternSequence) -> bool
+fn pattern_sequence(q: PatternSequence) -> bool
     ensures { λ r. ⌜ r ≡ allowedIn command.PatternSequence (sequenceValues q) ⌝ }
 {
     ((1 <= q.depth) & (q.depth <= 8))
@@ -100,7 +100,7 @@ pub(crate) fn pattern_sequence(q: PatternSequence) -> bool
         & (q.led <= 2)
 }
 
-pub(crate) fn sequence_run(r: u8) -> bool
+fn sequence_run(r: u8) -> bool
     ensures { λ a. ⌜ a ≡ allowedIn command.SequenceRun (r ∷ []) ⌝ }
 {
     r <= 1

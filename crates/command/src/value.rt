@@ -17,9 +17,9 @@ ghost use Rattle.command.specs.Value.{commandIn, valueFrom, parsed, data
 ghost use mathlib.Core.List.{[]};
 ghost use lib.ListN.{length};
 ghost use Rattle.command.specs.Parts.{currentValues, colourValues, settingValues, inputValues, videoValues, sequenceValues};
-ghost use Rattle.command.specs.Table.{layout, sizeOf};
+ghost use Rattle.command.specs.Table.{layout};
 ghost use Rattle.command.specs.declared.table.Command.the-variants as command;
-ghost use Rattle.command.specs.Inner.{Holds, splitFrom, joinOnto};
+ghost use Rattle.command.specs.Inner.{Holds, total, splitFrom, joinOnto};
 
 pub enum Value {
     DisplayMode(u8),
@@ -69,7 +69,7 @@ pub(crate) fn parse(c: Command, d: &[u8]) -> Parsed
 }
 
 fn from(c: Command, d: &[u8]) -> Value
-    requires { ⌜ length (now d) ≡ sizeOf c ⌝ }
+    requires { ⌜ length (now d) ≡ total (layout c) ⌝ }
     ensures { λ r. ⌜ r ≡ valueFrom c (splitFrom 0 (layout c) (now (d .entry))) ⌝ }
 {
     match c {
@@ -106,7 +106,7 @@ pub(crate) fn data_of(v: Value) -> Data
 
 // 01 04: red, green, blue.
 fn current_in(d: &[u8]) -> LedCurrent
-    requires { ⌜ length (now d) ≡ 6 ⌝ }
+    requires { ⌜ length (now d) ≡ total (layout command.LedCurrent) ⌝ }
     ensures { λ r. ⌜ currentValues r ≡ splitFrom 0 (layout command.LedCurrent) (now (d .entry)) ⌝ }
 {
     LedCurrent {
@@ -124,7 +124,7 @@ fn current_data(q: LedCurrent) -> Data
 
 // 01 06: blue, green, red, 00.
 fn colour_in(d: &[u8]) -> StaticColour
-    requires { ⌜ length (now d) ≡ 4 ⌝ }
+    requires { ⌜ length (now d) ≡ total (layout command.StaticColour) ⌝ }
     ensures { λ r. ⌜ colourValues r ≡ splitFrom 0 (layout command.StaticColour) (now (d .entry)) ⌝ }
 {
     StaticColour {
@@ -147,7 +147,7 @@ fn colour_data(q: StaticColour) -> Data
 
 // 01 07: long flip, short flip, rotate.
 fn setting_in(d: &[u8]) -> DisplaySetting
-    requires { ⌜ length (now d) ≡ 3 ⌝ }
+    requires { ⌜ length (now d) ≡ total (layout command.DisplaySetting) ⌝ }
     ensures { λ r. ⌜ settingValues r ≡ splitFrom 0 (layout command.DisplaySetting) (now (d .entry)) ⌝ }
 {
     DisplaySetting {
@@ -165,7 +165,7 @@ fn setting_data(q: DisplaySetting) -> Data
 
 // 02 00: X, Y, first pixel, first line, width, height.
 fn input_in(d: &[u8]) -> VideoInput
-    requires { ⌜ length (now d) ≡ 12 ⌝ }
+    requires { ⌜ length (now d) ≡ total (layout command.VideoInput) ⌝ }
     ensures { λ r. ⌜ inputValues r ≡ splitFrom 0 (layout command.VideoInput) (now (d .entry)) ⌝ }
 {
     VideoInput {
@@ -192,7 +192,7 @@ fn input_data(q: VideoInput) -> Data
 
 // 02 01: frame rate, depth, LED.
 fn video_in(d: &[u8]) -> VideoMode
-    requires { ⌜ length (now d) ≡ 3 ⌝ }
+    requires { ⌜ length (now d) ≡ total (layout command.VideoMode) ⌝ }
     ensures { λ r. ⌜ videoValues r ≡ splitFrom 0 (layout command.VideoMode) (now (d .entry)) ⌝ }
 {
     VideoMode {
@@ -210,7 +210,7 @@ fn video_data(q: VideoMode) -> Data
 
 // 04 00: depth, count, inversion, trigger, delay, period, exposure, LED.
 fn sequence_in(d: &[u8]) -> PatternSequence
-    requires { ⌜ length (now d) ≡ 17 ⌝ }
+    requires { ⌜ length (now d) ≡ total (layout command.PatternSequence) ⌝ }
     ensures { λ r. ⌜ sequenceValues r ≡ splitFrom 0 (layout command.PatternSequence) (now (d .entry)) ⌝ }
 {
     PatternSequence {

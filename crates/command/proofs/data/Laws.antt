@@ -11,7 +11,9 @@ use Rattle.packet.specs.Packet.{sum}
 use Rattle.packet.proofs.NumberLaws.{bytes-take, bytes-drop, value-bytes, length-bytes, bytes-value, value-bound}
 use Rattle.command.proofs.table.Laws.{Fit}
 use Rattle.command.specs.Data.{splitAll, joinAll}
-use Rattle.command.specs.Inner.{Holds, numberAt, splitFrom, joinOnto}
+use Rattle.command.specs.Inner.{Holds, total, numberAt, splitFrom, joinOnto}
+use Rattle.command.specs.Table.{layout, sizeOf}
+use Rattle.command.specs.declared.table.Command.{Command}
 use Rattle.command.specs.declared.data.Data.{Data}
 
 pub split-length : (ws d : List ℕ) → length (splitAll ws d) ≡ length ws
@@ -51,6 +53,14 @@ join-split (w ∷ ws) d h l =
     let e : length (take w d) ≡ w = length-take-le w d (omega arith) in
     let f : bytesOf w (valueOf (take w d)) ≡ take w d = rw e at (bytes-value (take w d) (bytes-take w d h)) in
     rw (f, join-split ws (drop w d) (bytes-drop w d h) (simp length-drop (omega arith))) (take-append-drop w d)
+
+pub size-layout : (c : Command) → total (layout c) ≡ sizeOf c
+unfolding sizeOf sum
+size-layout c = all (layout c)
+  where
+    all : (ws : List ℕ) → total ws ≡ sum ws
+    all [] = refl
+    all (w ∷ ws) = ap (λ n. w + n) (all ws)
 
 -- the first of the bytes, then the others
 value-next : (w : ℕ) (d : List ℕ) → valueOf (take (suc w) d) ≡ getD d 0 0 + 256 * valueOf (take w (drop 1 d))

@@ -1,8 +1,6 @@
 -- `from` meets its contract: in each arm the command is known, and so is its size.
 use mathlib.Core.Path.{ap}
 use native.Mathlib.Omega.{arith}
-use Rattle.packet.specs.Packet.{sum}
-use Rattle.command.specs.Table.{sizeOf}
 use Rattle.command.specs.Value.{valueFrom}
 use Rattle.command.specs.declared.table.Command.the-variants.{LedCurrent, StaticColour, DisplaySetting, VideoInput, VideoMode, PatternSequence}
 use borrow.Author.Needs.{needs}
@@ -10,7 +8,6 @@ use Rattle.command.proofs.value.from.Statement.{statement}
 use Rattle.command.proofs.value.from.Tie as tie
 
 pub from-spec : {M : Type 1} → statement M
-unfolding sizeOf sum
 from-spec =
     tie.close
     (tie.spec
