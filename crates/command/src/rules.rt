@@ -15,37 +15,42 @@ ghost use Rattle.command.specs.Rules.{allowed as allowedIn, blocked as b
 ghost use Rattle.command.specs.declared.table.Command.the-variants as command;
 ghost use Rattle.command.specs.Value.{commandIn, valuesIn};
 
+// 01 01: 3 is reserved.
 fn display_mode(m: u8) -> bool
     ensures { λ r. ⌜ r ≡ allowedIn command.DisplayMode (m ∷ []) ⌝ }
 {
     (m == 0) | (m == 1) | (m == 2) | (m == 4)
 }
 
+// 01 03
 fn test_pattern(p: u8) -> bool
     ensures { λ r. ⌜ r ≡ allowedIn command.TestPattern (p ∷ []) ⌝ }
 {
     p <= 13
 }
 
+// 01 04: each current.
 fn led_current(q: LedCurrent) -> bool
     ensures { λ r. ⌜ r ≡ allowedIn command.LedCurrent (currentValues q) ⌝ }
 {
     (q.red.0 <= 1024) & (q.green.0 <= 1024) & (q.blue.0 <= 1024)
 }
 
+// 01 06: the colours may have any value, the last byte not.
 fn static_colour(q: StaticColour) -> bool
     ensures { λ r. ⌜ r ≡ allowedIn command.StaticColour (colourValues q) ⌝ }
 {
     q.last == 0
 }
 
+// 01 07: each is on or off.
 fn display_setting(q: DisplaySetting) -> bool
     ensures { λ r. ⌜ r ≡ allowedIn command.DisplaySetting (settingValues q) ⌝ }
 {
     (q.long <= 1) & (q.short <= 1) & (q.rotate <= 1)
 }
 
-// X and Y are a listed pair; the pairs stand in the order of the table, from its end.
+// 02 00: X and Y are a listed pair. The pairs stand in the order of the list, from its end.
 fn video_input(q: VideoInput) -> bool
     ensures { λ r. ⌜ r ≡ allowedIn command.VideoInput (inputValues q) ⌝ }
 {
@@ -81,6 +86,7 @@ fn video_input(q: VideoInput) -> bool
     listed
 }
 
+// 02 01: frame rate, depth, LED.
 fn video_mode(q: VideoMode) -> bool
     ensures { λ r. ⌜ r ≡ allowedIn command.VideoMode (videoValues q) ⌝ }
 {
@@ -90,6 +96,7 @@ fn video_mode(q: VideoMode) -> bool
         & ((1 <= q.led) & (q.led <= 4))
 }
 
+// 04 00: inversion, and trigger 6, only at depth 1.
 fn pattern_sequence(q: PatternSequence) -> bool
     ensures { λ r. ⌜ r ≡ allowedIn command.PatternSequence (sequenceValues q) ⌝ }
 {
@@ -100,6 +107,7 @@ fn pattern_sequence(q: PatternSequence) -> bool
         & (q.led <= 2)
 }
 
+// 04 02
 fn sequence_run(r: u8) -> bool
     ensures { λ a. ⌜ a ≡ allowedIn command.SequenceRun (r ∷ []) ⌝ }
 {

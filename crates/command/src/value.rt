@@ -1,4 +1,4 @@
-// A command with its values: what a write carries and a read answers.
+// A command with its values: what a write carries and a read answers, read from its data and written to it.
 use crate::data::Data;
 use crate::data::byte_at;
 use crate::data::long_at;
@@ -68,6 +68,7 @@ pub(crate) fn parse(c: Command, d: &[u8]) -> Parsed
     Parsed::Values(from(c, d))
 }
 
+// The values in data of the command's size.
 fn from(c: Command, d: &[u8]) -> Value
     requires { ⌜ length (now d) ≡ total (layout c) ⌝ }
     ensures { λ r. ⌜ r ≡ valueFrom c (splitFrom 0 (layout c) (now (d .entry))) ⌝ }
