@@ -1,7 +1,7 @@
 // The bytes of a command's data: numbers of one, two and four bytes, least significant first, read at a place and appended.
 ghost use mathlib.Core.Path.{_≡_};
 ghost use mathlib.Core.List.{_++_};
-ghost use Prim.Native.Nat.{_+_, _≤_, _<_};
+ghost use Prim.Native.Nat.{_+_, _≤_};
 ghost use lib.ListN.{length};
 ghost use Rattle.packet.specs.Number.{bytesOf};
 ghost use Rattle.command.specs.Inner.{contents, numberAt};

@@ -197,30 +197,14 @@ pub(crate) fn stored(s: Settings, v: Value) -> Settings
                 t.run = 0;
             }
         }
-        Value::TestPattern(p) => {
-            t.pattern = p;
-        }
-        Value::LedCurrent(q) => {
-            t.current = q;
-        }
-        Value::StaticColour(q) => {
-            t.colour = q;
-        }
-        Value::DisplaySetting(q) => {
-            t.setting = q;
-        }
-        Value::VideoInput(q) => {
-            t.input = q;
-        }
-        Value::VideoMode(q) => {
-            t.video = q;
-        }
-        Value::PatternSequence(q) => {
-            t.sequence = q;
-        }
-        Value::SequenceRun(r) => {
-            t.run = r;
-        }
+        Value::TestPattern(p) => t.pattern = p,
+        Value::LedCurrent(q) => t.current = q,
+        Value::StaticColour(q) => t.colour = q,
+        Value::DisplaySetting(q) => t.setting = q,
+        Value::VideoInput(q) => t.input = q,
+        Value::VideoMode(q) => t.video = q,
+        Value::PatternSequence(q) => t.sequence = q,
+        Value::SequenceRun(r) => t.run = r,
     }
     t
 }

@@ -1,4 +1,4 @@
--- Laws of data laid out in fields.
+-- Laws of data laid out in fields: what is cited of splitAll and joinAll, and of the code's forms of them.
 use Prim.Native.Nat.{ℕ, suc, _≤_, zero, _+_, _*_}
 use mathlib.Core.Path.{_≡_, refl, ap, ap₂, sym, _∙_}
 use mathlib.Core.List.{List, [], _∷_, _++_, append-nil, append-assoc}
@@ -16,6 +16,7 @@ use Rattle.command.specs.Table.{layout, sizeOf}
 use Rattle.command.specs.declared.table.Command.{Command}
 use Rattle.command.specs.declared.data.Data.{Data}
 
+-- as many numbers as fields
 pub split-length : (ws d : List ℕ) → length (splitAll ws d) ≡ length ws
 unfolding splitAll
 split-length [] d = refl
@@ -31,12 +32,14 @@ split-join (w ∷ ws) (v ∷ vs) h =
     rw (take-at (bytesOf w v) (joinAll ws vs) w (length-bytes w v), drop-at (bytesOf w v) (joinAll ws vs) w (length-bytes w v))
     (ap₂ {C = List ℕ} (λ a b. a ∷ b) (value-bytes w v (h .0)) (split-join ws vs (h .1)))
 
+-- the size of data that are put together
 pub length-join : (ws vs : List ℕ) → length vs ≡ length ws → length (joinAll ws vs) ≡ sum ws
 unfolding joinAll sum
 length-join [] vs h = refl
 length-join (w ∷ ws) [] h = absurd (omega arith)
 length-join (w ∷ ws) (v ∷ vs) h = simp (length-append, length-bytes, length-join ws vs (omega arith))
 
+-- what is read fits its field
 pub fit-split : (ws d : List ℕ) → Bytes d → sum ws ≤ length d → Fit ws (splitAll ws d)
 unfolding splitAll sum
 fit-split [] d h l = tt
@@ -54,6 +57,7 @@ join-split (w ∷ ws) d h l =
     let f : bytesOf w (valueOf (take w d)) ≡ take w d = rw e at (bytes-value (take w d) (bytes-take w d h)) in
     rw (f, join-split ws (drop w d) (bytes-drop w d h) (simp length-drop (omega arith))) (take-append-drop w d)
 
+-- the size by the widths is the table's
 pub size-layout : (c : Command) → total (layout c) ≡ sizeOf c
 unfolding sizeOf sum
 size-layout c = all (layout c)
@@ -88,5 +92,6 @@ join-onto d [] vs = sym (append-nil d)
 join-onto d (w ∷ ws) [] = sym (append-nil d)
 join-onto d (w ∷ ws) (v ∷ vs) = join-onto (d ++ bytesOf w v) ws vs ∙ append-assoc d (bytesOf w v) (joinAll ws vs)
 
+-- data put together field by field
 pub holds-join : (r : Data) (ws vs : List ℕ) → Holds r (joinOnto [] ws vs) → Holds r (joinAll ws vs)
 holds-join r ws vs h = rw (join-onto [] ws vs) at h

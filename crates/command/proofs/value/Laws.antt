@@ -10,12 +10,12 @@ use Rattle.command.specs.Table.{layout}
 use Rattle.command.specs.Settings.{valuesOf}
 use Rattle.command.specs.declared.settings.Settings.{Settings}
 use Rattle.command.specs.declared.table.Command.{Command}
-use Rattle.command.specs.declared.table.Command.the-variants.{DisplayMode, TestPattern, LedCurrent, StaticColour, DisplaySetting, VideoInput, VideoMode, PatternSequence, SequenceRun}
 use Rattle.command.proofs.table.Laws.{each, tab, full}
 use Rattle.command.specs.Value.{commandIn, valuesIn, valueFrom, dataIn, dataOf}
 use Rattle.command.specs.declared.value.Value.{Value}
 use Rattle.command.specs.declared.value.Value.the-variants as value
 
+-- a value made of a command and a list has that command, and those values where the list has its length; and every value is made so
 pub command-from : (c : Command) (v : List ℕ) → commandIn (valueFrom c v) ≡ c
 command-from c v = each (λ c. commandIn (valueFrom c v) ≡ c) (refl, refl, refl, refl, refl, refl, refl, refl, refl) c
 
