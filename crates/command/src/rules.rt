@@ -29,14 +29,14 @@ fn test_pattern(p: u8) -> bool
     p <= 13
 }
 
-// 01 04: each current.
+// 01 04: each colour's current.
 fn led_current(q: LedCurrent) -> bool
     ensures { λ r. ⌜ r ≡ allowedIn command.LedCurrent (currentValues q) ⌝ }
 {
     (q.red.0 <= 1024) & (q.green.0 <= 1024) & (q.blue.0 <= 1024)
 }
 
-// 01 06: the colours may have any value, the last byte not.
+// 01 06: any colour; the last byte is 0.
 fn static_colour(q: StaticColour) -> bool
     ensures { λ r. ⌜ r ≡ allowedIn command.StaticColour (colourValues q) ⌝ }
 {
@@ -90,8 +90,7 @@ fn video_input(q: VideoInput) -> bool
 fn video_mode(q: VideoMode) -> bool
     ensures { λ r. ⌜ r ≡ allowedIn command.VideoMode (videoValues q) ⌝ }
 {
-    let f = q.rate;
-    ((f == 15) | (f == 30) | (f == 40) | (f == 50) | (f == 60))
+    ((q.rate == 15) | (q.rate == 30) | (q.rate == 40) | (q.rate == 50) | (q.rate == 60))
         & ((1 <= q.depth) & (q.depth <= 8))
         & ((1 <= q.led) & (q.led <= 4))
 }
