@@ -1,4 +1,4 @@
--- The fields of a command's data: numbers of several bytes, one after the other.
+-- The fields of a command's data, one after the other. "Several bytes to a number: least significant first."
 use Prim.Native.Nat.{ℕ}
 use mathlib.Core.List.{List, [], _∷_, _++_}
 use lib.ListN.{take, drop}

@@ -1,4 +1,4 @@
--- The parts of the settings as lists of numbers: the fields of a command's data in layout order, there and back.
+-- The parts of the settings as lists of numbers, there and back: the fields of a command's data in the order of the column "data".
 use Prim.Native.Nat.{ℕ}
 use mathlib.Core.List.{List, [], _∷_}
 use lib.ListN.{getD}

@@ -1,4 +1,4 @@
--- The table of commands: bytes, data, allowed values.
+-- The column "allowed" of the table of commands; and when the settings keep the rules, as refusal 3 asks.
 use Prim.Native.Nat.{ℕ}
 use mathlib.Core.Bool.{Bool, true, false, not, _&&_, _||_}
 use mathlib.Core.List.{List, [], _∷_}
@@ -11,7 +11,7 @@ use Rattle.command.specs.declared.settings.Settings.{Settings}
 use Rattle.command.specs.Settings.{valuesOf}
 
 -- n is one of these
-unfoldable pub oneOf : ℕ → List ℕ → Bool
+abbrev pub oneOf : ℕ → List ℕ → Bool
 oneOf n [] = false
 oneOf n (x ∷ xs) = eqb n x || oneOf n xs
 
@@ -19,19 +19,20 @@ oneOf n (x ∷ xs) = eqb n x || oneOf n xs
 abbrev pub within : ℕ → ℕ → ℕ → Bool
 within a b n = leb a n && leb n b
 
--- the listed pairs X × Y
+-- the listed pairs, X × Y
 abbrev pub pairs : List (ℕ × ℕ)
 pairs =
     (240, 320) ∷ (320, 240) ∷ (240, 427) ∷ (427, 240) ∷ (430, 640) ∷ (640, 430) ∷ (480, 640) ∷ (640, 480) ∷ (480, 720) ∷ (720, 480) ∷ (480, 752) ∷ (752, 480)
     ∷ (480, 800) ∷ (800, 480) ∷ (480, 852) ∷ (852, 480) ∷ (480, 853) ∷ (853, 480) ∷ (480, 854) ∷ (854, 480) ∷ (864, 480) ∷ (720, 240) ∷ (720, 288) ∷ (360, 640)
     ∷ (640, 360) ∷ (608, 684) ∷ []
 
-unfoldable pub listed : ℕ → ℕ → List (ℕ × ℕ) → Bool
+-- x × y is one of these pairs
+abbrev pub listed : ℕ → ℕ → List (ℕ × ℕ) → Bool
 listed x y [] = false
 listed x y (p ∷ ps) = eqb x (p .0) && eqb y (p .1) || listed x y ps
 
 -- The column "allowed": the values of a command's fields, in layout order, are allowed.
-unfoldable pub allowed : Command → List ℕ → Bool
+abbrev pub allowed : Command → List ℕ → Bool
 -- 0, 1, 2, 4
 allowed DisplayMode v = oneOf (getD v 0 0) (0 ∷ 1 ∷ 2 ∷ 4 ∷ [])
 -- 0 to 13
@@ -53,15 +54,15 @@ allowed PatternSequence v =
 -- 0 or 1
 allowed SequenceRun v = leb (getD v 0 0) 1
 
--- run 1 needs display mode 4; run 0 is allowed always
+-- "Run 1 needs display mode 4. Run 0 is allowed always." The command c with the values v is blocked in this mode.
 unfoldable pub blocked : Command → List ℕ → ℕ → Bool
 blocked c v mode = same c SequenceRun && eqb (getD v 0 0) 1 && not (eqb mode 4)
 
--- every setting is allowed
+-- every setting of these commands is allowed
 unfoldable pub allAllowed : Settings → List Command → Bool
 allAllowed s [] = true
 allAllowed s (c ∷ cs) = allowed c (valuesOf c s) && allAllowed s cs
 
--- the settings keep the rules: every setting is allowed, and run is not 1 outside mode 4
+-- the settings keep the rules: none of "a setting not allowed, run 1 outside mode 4"
 unfoldable pub settingsInRule : Settings → Bool
 settingsInRule s = allAllowed s table && not (blocked SequenceRun (valuesOf SequenceRun s) (s .mode))

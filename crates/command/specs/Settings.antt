@@ -1,4 +1,4 @@
--- The settings: the values of every command in the table, the factory values, and what a write stores.
+-- The settings, the values of every command in the table: the column "factory", and what a write stores (document 01, "Playing bytes from given settings").
 use Prim.Native.Nat.{ℕ}
 use mathlib.Core.Bool.{cond, not, _&&_}
 use mathlib.Core.List.{List, [], _∷_}
@@ -49,10 +49,11 @@ factoryValues VideoMode = 60 ∷ 8 ∷ 1 ∷ []
 factoryValues PatternSequence = 1 ∷ 1 ∷ 0 ∷ 0 ∷ 0 ∷ 0 ∷ 0 ∷ 0 ∷ []
 factoryValues SequenceRun = 0 ∷ []
 
+-- the factory values
 unfoldable pub factory : Settings
 factory = settingsOf factoryValues
 
--- the values of command d after c was written with v: writing a mode other than 4 stops the sequence, writing 4 changes nothing else
+-- the values of command d after c was written with v. "Writing a mode other than 4 stops the sequence; writing 4 changes nothing else."
 unfoldable pub valuesAfter : Command → List ℕ → Settings → Command → List ℕ
 valuesAfter c v s d =
     cond (same d c) v (cond (same c DisplayMode && same d SequenceRun && not (eqb (getD v 0 0) 4)) (0 ∷ []) (valuesOf d s))

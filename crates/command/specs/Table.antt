@@ -1,4 +1,4 @@
--- The table of commands: bytes, data, allowed values.
+-- The table of commands: their bytes and the layout of their data (document 01, "Commands and factory values").
 use Prim.Native.Nat.{ℕ}
 use mathlib.Core.Bool.{Bool, true, false, cond, not, _&&_}
 use mathlib.Core.List.{List, [], _∷_}
@@ -19,6 +19,7 @@ table =
 abbrev pub commandAt : ℕ → Command
 commandAt k = getD table k SequenceRun
 
+-- The column "command": CMD1 and CMD2.
 abbrev pub cmd1For : Command → ℕ
 cmd1For DisplayMode = 0x01
 cmd1For TestPattern = 0x01
@@ -45,6 +46,7 @@ cmd2For SequenceRun = 0x02
 abbrev pub hasCode : ℕ → ℕ → Command → Bool
 hasCode cmd1 cmd2 c = eqb cmd1 (cmd1For c) && eqb cmd2 (cmd2For c)
 
+-- the first of the commands that has these bytes
 unfoldable pub find : ℕ → ℕ → List Command → Found
 find cmd1 cmd2 [] = Unknown
 find cmd1 cmd2 (c ∷ cs) = let later = find cmd1 cmd2 cs in cond (hasCode cmd1 cmd2 c) (Known c) later
@@ -57,7 +59,7 @@ commandOf cmd1 cmd2 = find cmd1 cmd2 table
 abbrev pub same : Command → Command → Bool
 same a b = hasCode (cmd1For a) (cmd2For a) b
 
--- the widths of the fields of its data, in bytes
+-- The column "data": the widths of the fields of a command's data, in bytes. A command or a field more is a line or a number more here.
 abbrev pub layout : Command → List ℕ
 layout DisplayMode = 1 ∷ []
 layout TestPattern = 1 ∷ []
@@ -77,10 +79,12 @@ sizeOf c = sum (layout c)
 abbrev pub readable : Command → Bool
 readable c = not (same c StaticColour)
 
+-- the command is in the table
 abbrev pub isKnown : Found → Bool
 isKnown Unknown = false
 isKnown (Known c) = true
 
+-- it is in the table and can be read
 abbrev pub canRead : Found → Bool
 canRead Unknown = false
 canRead (Known c) = readable c

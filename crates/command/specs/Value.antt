@@ -1,4 +1,4 @@
--- A command with its values, as the code has it: its command, and its values in layout order.
+-- A command with its values, as the code has it, and its data: what a write carries and a read answers, "in the same layout".
 use Prim.Native.Nat.{ℕ}
 use mathlib.Core.List.{List, [], _∷_}
 use mathlib.Core.Bool.{cond}
@@ -16,6 +16,7 @@ use Rattle.command.specs.declared.value.Value.the-variants as value
 use Rattle.command.specs.declared.value.Parsed.{Parsed}
 use Rattle.command.specs.declared.value.Parsed.the-variants.{Values, WrongSize}
 
+-- its command
 abbrev pub commandIn : Value → Command
 commandIn (value.DisplayMode m) = DisplayMode
 commandIn (value.TestPattern p) = TestPattern
@@ -27,6 +28,7 @@ commandIn (value.VideoMode q) = VideoMode
 commandIn (value.PatternSequence q) = PatternSequence
 commandIn (value.SequenceRun r) = SequenceRun
 
+-- its values, in layout order
 abbrev pub valuesIn : Value → List ℕ
 valuesIn (value.DisplayMode m) = m ∷ []
 valuesIn (value.TestPattern p) = p ∷ []
@@ -58,6 +60,6 @@ dataIn v = joinAll (layout (commandIn v)) (valuesIn v)
 unfoldable pub dataOf : Command → Settings → List ℕ
 dataOf c s = joinAll (layout c) (valuesOf c s)
 
--- the values that stand in data of the right size
+-- the values that stand in data of the command's size; other data draw 0A
 unfoldable pub parsed : Command → List ℕ → Parsed
 parsed c d = cond (eqb (length d) (sizeOf c)) (Values (valueFrom c (splitAll (layout c) d))) WrongSize

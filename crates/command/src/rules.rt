@@ -1,6 +1,7 @@
-// The allowed values, a function for each line of the table.
+// The column "allowed" of the table of commands, a function for each line, and what follows from it for a write and for the settings.
 use crate::settings::DisplaySetting;
 use crate::settings::LedCurrent;
+use crate::settings::PATTERN_SEQUENCE_MODE;
 use crate::settings::PatternSequence;
 use crate::settings::Settings;
 use crate::settings::StaticColour;
@@ -14,38 +15,43 @@ ghost use Rattle.command.specs.Rules.{allowed as allowedIn, blocked as b
 ghost use Rattle.command.specs.declared.table.Command.the-variants as command;
 ghost use Rattle.command.specs.Value.{commandIn, valuesIn};
 
-pub(crate) fn display_mode(m: u8) -> bool
+// 01 01: 3 is reserved.
+fn display_mode(m: u8) -> bool
     ensures { λ r. ⌜ r ≡ allowedIn command.DisplayMode (m ∷ []) ⌝ }
 {
-    (m == 0) | ((m == 1) | ((m == 2) | ((m == 4) | false)))
+    (m == 0) | (m == 1) | (m == 2) | (m == 4)
 }
 
-pub(crate) fn test_pattern(p: u8) -> bool
+// 01 03
+fn test_pattern(p: u8) -> bool
     ensures { λ r. ⌜ r ≡ allowedIn command.TestPattern (p ∷ []) ⌝ }
 {
     p <= 13
 }
 
-pub(crate) fn led_current(q: LedCurrent) -> bool
+// 01 04: each colour's current.
+fn led_current(q: LedCurrent) -> bool
     ensures { λ r. ⌜ r ≡ allowedIn command.LedCurrent (currentValues q) ⌝ }
 {
     (q.red.0 <= 1024) & (q.green.0 <= 1024) & (q.blue.0 <= 1024)
 }
 
-pub(crate) fn static_colour(q: StaticColour) -> bool
+// 01 06: any colour; the last byte is 0.
+fn static_colour(q: StaticColour) -> bool
     ensures { λ r. ⌜ r ≡ allowedIn command.StaticColour (colourValues q) ⌝ }
 {
     q.last == 0
 }
 
-pub(crate) fn display_setting(q: DisplaySetting) -> bool
+// 01 07: each is on or off.
+fn display_setting(q: DisplaySetting) -> bool
     ensures { λ r. ⌜ r ≡ allowedIn command.DisplaySetting (settingValues q) ⌝ }
 {
     (q.long <= 1) & (q.short <= 1) & (q.rotate <= 1)
 }
 
-// X and Y are a listed pair; the pairs stand in the order of the table, from its end.
-pub(crate) fn video_input(q: VideoInput) -> bool
+// 02 00: X and Y are a listed pair. The pairs stand in the order of the list, from its end.
+fn video_input(q: VideoInput) -> bool
     ensures { λ r. ⌜ r ≡ allowedIn command.VideoInput (inputValues q) ⌝ }
 {
     let x = q.x;
@@ -80,16 +86,17 @@ pub(crate) fn video_input(q: VideoInput) -> bool
     listed
 }
 
-pub(crate) fn video_mode(q: VideoMode) -> bool
+// 02 01: frame rate, depth, LED.
+fn video_mode(q: VideoMode) -> bool
     ensures { λ r. ⌜ r ≡ allowedIn command.VideoMode (videoValues q) ⌝ }
 {
-    let f = q.rate;
-    ((f == 15) | ((f == 30) | ((f == 40) | ((f == 50) | ((f == 60) | false)))))
+    ((q.rate == 15) | (q.rate == 30) | (q.rate == 40) | (q.rate == 50) | (q.rate == 60))
         & ((1 <= q.depth) & (q.depth <= 8))
         & ((1 <= q.led) & (q.led <= 4))
 }
 
-pub(crate) fn pattern_sequence(q: PatternSequence) -> bool
+// 04 00: inversion, and trigger 6, only at depth 1.
+fn pattern_sequence(q: PatternSequence) -> bool
     ensures { λ r. ⌜ r ≡ allowedIn command.PatternSequence (sequenceValues q) ⌝ }
 {
     ((1 <= q.depth) & (q.depth <= 8))
@@ -99,7 +106,8 @@ pub(crate) fn pattern_sequence(q: PatternSequence) -> bool
         & (q.led <= 2)
 }
 
-pub(crate) fn sequence_run(r: u8) -> bool
+// 04 02
+fn sequence_run(r: u8) -> bool
     ensures { λ a. ⌜ a ≡ allowedIn command.SequenceRun (r ∷ []) ⌝ }
 {
     r <= 1
@@ -127,7 +135,7 @@ pub(crate) fn blocked(v: Value, mode: u8) -> bool
     ensures { λ r. ⌜ r ≡ blockedIn (commandIn v) (valuesIn v) mode ⌝ }
 {
     match v {
-        Value::SequenceRun(r) => (r == 1) & !(mode == 4),
+        Value::SequenceRun(r) => (r == 1) & (mode != PATTERN_SEQUENCE_MODE),
         _ => false,
     }
 }
@@ -136,14 +144,14 @@ pub(crate) fn blocked(v: Value, mode: u8) -> bool
 pub(crate) fn settings_in_rule(s: Settings) -> bool
     ensures { λ r. ⌜ r ≡ settingsInRule s ⌝ }
 {
-    let a = display_mode(s.mode);
-    let b = test_pattern(s.pattern);
-    let c = led_current(s.current);
-    let d = static_colour(s.colour);
-    let e = display_setting(s.setting);
-    let f = video_input(s.input);
-    let g = video_mode(s.video);
-    let h = pattern_sequence(s.sequence);
-    let i = sequence_run(s.run);
-    (a & (b & (c & (d & (e & (f & (g & (h & (i & true))))))))) & !((s.run == 1) & !(s.mode == 4))
+    display_mode(s.mode)
+        & test_pattern(s.pattern)
+        & led_current(s.current)
+        & static_colour(s.colour)
+        & display_setting(s.setting)
+        & video_input(s.input)
+        & video_mode(s.video)
+        & pattern_sequence(s.sequence)
+        & sequence_run(s.run)
+        & !blocked(Value::SequenceRun(s.run), s.mode)
 }

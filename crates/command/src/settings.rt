@@ -1,9 +1,12 @@
-// The settings of the head: a part for each command, and the factory values.
+// The settings of the head: a part for each command, the factory values, a command's values out of them and a write stored in them.
 use crate::table::Command;
 use crate::value::Value;
 ghost use mathlib.Core.Path.{_≡_};
 ghost use Rattle.command.specs.Settings.{factory as factoryOf, store as storeIn, valuesOf};
 ghost use Rattle.command.specs.Value.{commandIn, valuesIn, valueFrom};
+
+// The display mode in which a sequence can run.
+pub(crate) const PATTERN_SEQUENCE_MODE: u8 = 4;
 
 // LED drive, in counts.
 #[repr(C)]
@@ -155,34 +158,34 @@ pub fn value_of(s: Settings, c: Command) -> Value
         Command::DisplayMode => Value::DisplayMode(s.mode),
         Command::TestPattern => Value::TestPattern(s.pattern),
         Command::LedCurrent => {
-            let q = s.current;
-            Value::LedCurrent(q)
+            let current = s.current;
+            Value::LedCurrent(current)
         }
         Command::StaticColour => {
-            let q = s.colour;
-            Value::StaticColour(q)
+            let colour = s.colour;
+            Value::StaticColour(colour)
         }
         Command::DisplaySetting => {
-            let q = s.setting;
-            Value::DisplaySetting(q)
+            let setting = s.setting;
+            Value::DisplaySetting(setting)
         }
         Command::VideoInput => {
-            let q = s.input;
-            Value::VideoInput(q)
+            let input = s.input;
+            Value::VideoInput(input)
         }
         Command::VideoMode => {
-            let q = s.video;
-            Value::VideoMode(q)
+            let video = s.video;
+            Value::VideoMode(video)
         }
         Command::PatternSequence => {
-            let q = s.sequence;
-            Value::PatternSequence(q)
+            let sequence = s.sequence;
+            Value::PatternSequence(sequence)
         }
         Command::SequenceRun => Value::SequenceRun(s.run),
     }
 }
 
-// The settings after a write. A mode other than 4 stops the sequence.
+// The settings after a write. Leaving the mode of sequences stops a running one.
 pub(crate) fn stored(s: Settings, v: Value) -> Settings
     ensures { λ r. ⌜ r ≡ storeIn (commandIn v) (valuesIn v) s ⌝ }
 {
@@ -190,34 +193,18 @@ pub(crate) fn stored(s: Settings, v: Value) -> Settings
     match v {
         Value::DisplayMode(m) => {
             t.mode = m;
-            if m != 4 {
+            if m != PATTERN_SEQUENCE_MODE {
                 t.run = 0;
             }
         }
-        Value::TestPattern(p) => {
-            t.pattern = p;
-        }
-        Value::LedCurrent(q) => {
-            t.current = q;
-        }
-        Value::StaticColour(q) => {
-            t.colour = q;
-        }
-        Value::DisplaySetting(q) => {
-            t.setting = q;
-        }
-        Value::VideoInput(q) => {
-            t.input = q;
-        }
-        Value::VideoMode(q) => {
-            t.video = q;
-        }
-        Value::PatternSequence(q) => {
-            t.sequence = q;
-        }
-        Value::SequenceRun(r) => {
-            t.run = r;
-        }
+        Value::TestPattern(p) => t.pattern = p,
+        Value::LedCurrent(q) => t.current = q,
+        Value::StaticColour(q) => t.colour = q,
+        Value::DisplaySetting(q) => t.setting = q,
+        Value::VideoInput(q) => t.input = q,
+        Value::VideoMode(q) => t.video = q,
+        Value::PatternSequence(q) => t.sequence = q,
+        Value::SequenceRun(r) => t.run = r,
     }
     t
 }

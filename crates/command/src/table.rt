@@ -1,6 +1,7 @@
-// The nine commands: their bytes CMD1 and CMD2, and the size of their data.
+// The table of the nine commands: their bytes CMD1 and CMD2, the size of their data, their order.
 ghost use mathlib.Core.Path.{_≡_};
-ghost use Rattle.command.specs.Table.{isKnown, canRead, cmd1For, cmd2For, commandAt, commandOf, sizeOf};
+ghost use Rattle.command.specs.Inner.{total};
+ghost use Rattle.command.specs.Table.{isKnown, canRead, cmd1For, cmd2For, commandAt, commandOf, layout};
 
 pub enum Command {
     DisplayMode,
@@ -22,12 +23,20 @@ pub enum Found {
 
 // A command's bytes.
 pub(crate) struct Code {
-    pub cmd1: u8,
-    pub cmd2: u8,
+    pub(crate) cmd1: u8,
+    pub(crate) cmd2: u8,
+}
+
+impl Code {
+    fn new(cmd1: u8, cmd2: u8) -> Code
+        ensures { λ r. ⌜ (r .cmd1 ≡ cmd1) × (r .cmd2 ≡ cmd2) ⌝ }
+    {
+        Code { cmd1, cmd2 }
+    }
 }
 
 impl Found {
-    pub fn known(self) -> bool
+    pub(crate) fn known(self) -> bool
         ensures { λ r. ⌜ r ≡ isKnown self ⌝ }
     {
         match self {
@@ -37,7 +46,7 @@ impl Found {
     }
 
     // All but 01 06 can be read.
-    pub fn readable(self) -> bool
+    pub(crate) fn readable(self) -> bool
         ensures { λ r. ⌜ r ≡ canRead self ⌝ }
     {
         let Found::Known(c) = self else {
@@ -55,83 +64,49 @@ impl Command {
     pub fn find(cmd1: u8, cmd2: u8) -> Found
         ensures { λ r. ⌜ r ≡ commandOf cmd1 cmd2 ⌝ }
     {
-        if (cmd1 == 0x01) & (cmd2 == 0x01) {
-            return Found::Known(Command::DisplayMode);
+        match cmd1 {
+            0x01 => match cmd2 {
+                0x01 => Found::Known(Command::DisplayMode),
+                0x03 => Found::Known(Command::TestPattern),
+                0x04 => Found::Known(Command::LedCurrent),
+                0x06 => Found::Known(Command::StaticColour),
+                0x07 => Found::Known(Command::DisplaySetting),
+                _ => Found::Unknown,
+            },
+            0x02 => match cmd2 {
+                0x00 => Found::Known(Command::VideoInput),
+                0x01 => Found::Known(Command::VideoMode),
+                _ => Found::Unknown,
+            },
+            0x04 => match cmd2 {
+                0x00 => Found::Known(Command::PatternSequence),
+                0x02 => Found::Known(Command::SequenceRun),
+                _ => Found::Unknown,
+            },
+            _ => Found::Unknown,
         }
-        if (cmd1 == 0x01) & (cmd2 == 0x03) {
-            return Found::Known(Command::TestPattern);
-        }
-        if (cmd1 == 0x01) & (cmd2 == 0x04) {
-            return Found::Known(Command::LedCurrent);
-        }
-        if (cmd1 == 0x01) & (cmd2 == 0x06) {
-            return Found::Known(Command::StaticColour);
-        }
-        if (cmd1 == 0x01) & (cmd2 == 0x07) {
-            return Found::Known(Command::DisplaySetting);
-        }
-        if (cmd1 == 0x02) & (cmd2 == 0x00) {
-            return Found::Known(Command::VideoInput);
-        }
-        if (cmd1 == 0x02) & (cmd2 == 0x01) {
-            return Found::Known(Command::VideoMode);
-        }
-        if (cmd1 == 0x04) & (cmd2 == 0x00) {
-            return Found::Known(Command::PatternSequence);
-        }
-        if (cmd1 == 0x04) & (cmd2 == 0x02) {
-            return Found::Known(Command::SequenceRun);
-        }
-        Found::Unknown
     }
 
     // CMD1 and CMD2.
-    pub fn code(self) -> Code
+    pub(crate) fn code(self) -> Code
         ensures { λ r. ⌜ (r .cmd1 ≡ cmd1For self) × (r .cmd2 ≡ cmd2For self) ⌝ }
     {
         match self {
-            Command::DisplayMode => Code {
-                cmd1: 0x01,
-                cmd2: 0x01,
-            },
-            Command::TestPattern => Code {
-                cmd1: 0x01,
-                cmd2: 0x03,
-            },
-            Command::LedCurrent => Code {
-                cmd1: 0x01,
-                cmd2: 0x04,
-            },
-            Command::StaticColour => Code {
-                cmd1: 0x01,
-                cmd2: 0x06,
-            },
-            Command::DisplaySetting => Code {
-                cmd1: 0x01,
-                cmd2: 0x07,
-            },
-            Command::VideoInput => Code {
-                cmd1: 0x02,
-                cmd2: 0x00,
-            },
-            Command::VideoMode => Code {
-                cmd1: 0x02,
-                cmd2: 0x01,
-            },
-            Command::PatternSequence => Code {
-                cmd1: 0x04,
-                cmd2: 0x00,
-            },
-            Command::SequenceRun => Code {
-                cmd1: 0x04,
-                cmd2: 0x02,
-            },
+            Command::DisplayMode => Code::new(0x01, 0x01),
+            Command::TestPattern => Code::new(0x01, 0x03),
+            Command::LedCurrent => Code::new(0x01, 0x04),
+            Command::StaticColour => Code::new(0x01, 0x06),
+            Command::DisplaySetting => Code::new(0x01, 0x07),
+            Command::VideoInput => Code::new(0x02, 0x00),
+            Command::VideoMode => Code::new(0x02, 0x01),
+            Command::PatternSequence => Code::new(0x04, 0x00),
+            Command::SequenceRun => Code::new(0x04, 0x02),
         }
     }
 
     // How many bytes its data has.
-    pub fn size(self) -> usize
-        ensures { λ r. ⌜ r ≡ sizeOf self ⌝ }
+    pub(crate) fn size(self) -> usize
+        ensures { λ r. ⌜ r ≡ total (layout self) ⌝ }
     {
         match self {
             Command::DisplayMode => 1,
@@ -147,7 +122,7 @@ impl Command {
     }
 
     // The command in line k of the table; past its end, the last.
-    pub fn at(k: usize) -> Command
+    pub(crate) fn at(k: usize) -> Command
         ensures { λ r. ⌜ r ≡ commandAt k ⌝ }
     {
         match k {

@@ -1,4 +1,4 @@
-// A command with its values: what a write carries and a read answers.
+// A command with its values: what a write carries and a read answers, read from its data and written to it.
 use crate::data::Data;
 use crate::data::byte_at;
 use crate::data::long_at;
@@ -14,12 +14,12 @@ use crate::settings::VideoMode;
 use crate::table::Command;
 ghost use mathlib.Core.Path.{_≡_};
 ghost use Rattle.command.specs.Value.{commandIn, valueFrom, parsed, dataIn};
+ghost use mathlib.Core.List.{[]};
 ghost use lib.ListN.{length};
-ghost use Rattle.command.specs.Parts.{currentFrom, colourFrom, settingFrom, inputFrom, videoFrom, sequenceFrom, currentValues, colourValues, settingValues, inputValues, videoValues, sequenceValues};
-ghost use Rattle.command.specs.Table.{layout, sizeOf};
+ghost use Rattle.command.specs.Parts.{currentValues, colourValues, settingValues, inputValues, videoValues, sequenceValues};
+ghost use Rattle.command.specs.Table.{layout};
 ghost use Rattle.command.specs.declared.table.Command.the-variants as command;
-ghost use Rattle.command.specs.Data.{splitAll, joinAll};
-ghost use Rattle.command.specs.Inner.{Holds};
+ghost use Rattle.command.specs.Inner.{Holds, total, splitFrom, joinOnto};
 
 pub enum Value {
     DisplayMode(u8),
@@ -41,7 +41,7 @@ pub(crate) enum Parsed {
 }
 
 impl Value {
-    pub fn command(self) -> Command
+    pub(crate) fn command(self) -> Command
         ensures { λ r. ⌜ r ≡ commandIn self ⌝ }
     {
         match self {
@@ -58,89 +58,6 @@ impl Value {
     }
 }
 
-// The data of each command that has several fields, taken apart.
-
-// 01 04: red, green, blue.
-fn current_in(d: &[u8]) -> LedCurrent
-    requires { ⌜ length (now d) ≡ sizeOf command.LedCurrent ⌝ }
-    ensures { λ r. ⌜ r ≡ currentFrom (splitAll (layout command.LedCurrent) (now (d .entry))) ⌝ }
-{
-    LedCurrent {
-        red: Drive(word_at(d, 0)),
-        green: Drive(word_at(d, 2)),
-        blue: Drive(word_at(d, 4)),
-    }
-}
-
-// 01 06: blue, green, red, 00.
-fn colour_in(d: &[u8]) -> StaticColour
-    requires { ⌜ length (now d) ≡ sizeOf command.StaticColour ⌝ }
-    ensures { λ r. ⌜ r ≡ colourFrom (splitAll (layout command.StaticColour) (now (d .entry))) ⌝ }
-{
-    StaticColour {
-        blue: byte_at(d, 0),
-        green: byte_at(d, 1),
-        red: byte_at(d, 2),
-        last: byte_at(d, 3),
-    }
-}
-
-// 01 07: long flip, short flip, rotate.
-fn setting_in(d: &[u8]) -> DisplaySetting
-    requires { ⌜ length (now d) ≡ sizeOf command.DisplaySetting ⌝ }
-    ensures { λ r. ⌜ r ≡ settingFrom (splitAll (layout command.DisplaySetting) (now (d .entry))) ⌝ }
-{
-    DisplaySetting {
-        long: byte_at(d, 0),
-        short: byte_at(d, 1),
-        rotate: byte_at(d, 2),
-    }
-}
-
-// 02 00: X, Y, first pixel, first line, width, height.
-fn input_in(d: &[u8]) -> VideoInput
-    requires { ⌜ length (now d) ≡ sizeOf command.VideoInput ⌝ }
-    ensures { λ r. ⌜ r ≡ inputFrom (splitAll (layout command.VideoInput) (now (d .entry))) ⌝ }
-{
-    VideoInput {
-        x: word_at(d, 0),
-        y: word_at(d, 2),
-        pixel: word_at(d, 4),
-        line: word_at(d, 6),
-        width: word_at(d, 8),
-        height: word_at(d, 10),
-    }
-}
-
-// 02 01: frame rate, depth, LED.
-fn video_in(d: &[u8]) -> VideoMode
-    requires { ⌜ length (now d) ≡ sizeOf command.VideoMode ⌝ }
-    ensures { λ r. ⌜ r ≡ videoFrom (splitAll (layout command.VideoMode) (now (d .entry))) ⌝ }
-{
-    VideoMode {
-        rate: byte_at(d, 0),
-        depth: byte_at(d, 1),
-        led: byte_at(d, 2),
-    }
-}
-
-// 04 00: depth, count, inversion, trigger, delay, period, exposure, LED.
-fn sequence_in(d: &[u8]) -> PatternSequence
-    requires { ⌜ length (now d) ≡ sizeOf command.PatternSequence ⌝ }
-    ensures { λ r. ⌜ r ≡ sequenceFrom (splitAll (layout command.PatternSequence) (now (d .entry))) ⌝ }
-{
-    PatternSequence {
-        depth: byte_at(d, 0),
-        count: byte_at(d, 1),
-        inversion: byte_at(d, 2),
-        trigger: byte_at(d, 3),
-        delay: Microseconds(long_at(d, 4)),
-        period: Microseconds(long_at(d, 8)),
-        exposure: Microseconds(long_at(d, 12)),
-        led: byte_at(d, 16),
-    }
-}
-
 // The values that stand in a command's data, where their size is right.
 pub(crate) fn parse(c: Command, d: &[u8]) -> Parsed
     ensures { λ r. ⌜ r ≡ parsed c (now (d .entry)) ⌝ }
@@ -151,9 +68,10 @@ pub(crate) fn parse(c: Command, d: &[u8]) -> Parsed
     Parsed::Values(from(c, d))
 }
 
+// The values in data of the command's size.
 fn from(c: Command, d: &[u8]) -> Value
-    requires { ⌜ length (now d) ≡ sizeOf c ⌝ }
-    ensures { λ r. ⌜ r ≡ valueFrom c (splitAll (layout c) (now (d .entry))) ⌝ }
+    requires { ⌜ length (now d) ≡ total (layout c) ⌝ }
+    ensures { λ r. ⌜ r ≡ valueFrom c (splitFrom 0 (layout c) (now (d .entry))) ⌝ }
 {
     match c {
         Command::DisplayMode => Value::DisplayMode(byte_at(d, 0)),
@@ -166,68 +84,6 @@ fn from(c: Command, d: &[u8]) -> Value
         Command::PatternSequence => Value::PatternSequence(sequence_in(d)),
         Command::SequenceRun => Value::SequenceRun(byte_at(d, 0)),
     }
-}
-
-// The data of each command that has several fields, put together.
-
-// 01 04: red, green, blue.
-fn current_data(q: LedCurrent) -> Data
-    ensures { λ r. ⌜ Holds r (joinAll (layout command.LedCurrent) (currentValues q)) ⌝ }
-{
-    Data::EMPTY.word(q.red.0).word(q.green.0).word(q.blue.0)
-}
-
-// 01 06: blue, green, red, 00.
-fn colour_data(q: StaticColour) -> Data
-    ensures { λ r. ⌜ Holds r (joinAll (layout command.StaticColour) (colourValues q)) ⌝ }
-{
-    Data::EMPTY
-        .byte(q.blue)
-        .byte(q.green)
-        .byte(q.red)
-        .byte(q.last)
-}
-
-// 01 07: long flip, short flip, rotate.
-fn setting_data(q: DisplaySetting) -> Data
-    ensures { λ r. ⌜ Holds r (joinAll (layout command.DisplaySetting) (settingValues q)) ⌝ }
-{
-    Data::EMPTY.byte(q.long).byte(q.short).byte(q.rotate)
-}
-
-// 02 00: X, Y, first pixel, first line, width, height.
-fn input_data(q: VideoInput) -> Data
-    ensures { λ r. ⌜ Holds r (joinAll (layout command.VideoInput) (inputValues q)) ⌝ }
-{
-    Data::EMPTY
-        .word(q.x)
-        .word(q.y)
-        .word(q.pixel)
-        .word(q.line)
-        .word(q.width)
-        .word(q.height)
-}
-
-// 02 01: frame rate, depth, LED.
-fn video_data(q: VideoMode) -> Data
-    ensures { λ r. ⌜ Holds r (joinAll (layout command.VideoMode) (videoValues q)) ⌝ }
-{
-    Data::EMPTY.byte(q.rate).byte(q.depth).byte(q.led)
-}
-
-// 04 00: depth, count, inversion, trigger, delay, period, exposure, LED.
-fn sequence_data(q: PatternSequence) -> Data
-    ensures { λ r. ⌜ Holds r (joinAll (layout command.PatternSequence) (sequenceValues q)) ⌝ }
-{
-    Data::EMPTY
-        .byte(q.depth)
-        .byte(q.count)
-        .byte(q.inversion)
-        .byte(q.trigger)
-        .long(q.delay.0)
-        .long(q.period.0)
-        .long(q.exposure.0)
-        .byte(q.led)
 }
 
 // The data that carry the values.
@@ -245,4 +101,141 @@ pub(crate) fn data_of(v: Value) -> Data
         Value::PatternSequence(q) => sequence_data(q),
         Value::SequenceRun(r) => Data::EMPTY.byte(r),
     }
+}
+
+// The commands that have several fields: their data taken apart, and put together.
+
+// 01 04: red, green, blue.
+fn current_in(d: &[u8]) -> LedCurrent
+    requires { ⌜ length (now d) ≡ total (layout command.LedCurrent) ⌝ }
+    ensures { λ r. ⌜ currentValues r ≡ splitFrom 0 (layout command.LedCurrent) (now (d .entry)) ⌝ }
+{
+    LedCurrent {
+        red: Drive(word_at(d, 0)),
+        green: Drive(word_at(d, 2)),
+        blue: Drive(word_at(d, 4)),
+    }
+}
+
+fn current_data(q: LedCurrent) -> Data
+    ensures { λ r. ⌜ Holds r (joinOnto [] (layout command.LedCurrent) (currentValues q)) ⌝ }
+{
+    Data::EMPTY.word(q.red.0).word(q.green.0).word(q.blue.0)
+}
+
+// 01 06: blue, green, red, 00.
+fn colour_in(d: &[u8]) -> StaticColour
+    requires { ⌜ length (now d) ≡ total (layout command.StaticColour) ⌝ }
+    ensures { λ r. ⌜ colourValues r ≡ splitFrom 0 (layout command.StaticColour) (now (d .entry)) ⌝ }
+{
+    StaticColour {
+        blue: byte_at(d, 0),
+        green: byte_at(d, 1),
+        red: byte_at(d, 2),
+        last: byte_at(d, 3),
+    }
+}
+
+fn colour_data(q: StaticColour) -> Data
+    ensures { λ r. ⌜ Holds r (joinOnto [] (layout command.StaticColour) (colourValues q)) ⌝ }
+{
+    Data::EMPTY
+        .byte(q.blue)
+        .byte(q.green)
+        .byte(q.red)
+        .byte(q.last)
+}
+
+// 01 07: long flip, short flip, rotate.
+fn setting_in(d: &[u8]) -> DisplaySetting
+    requires { ⌜ length (now d) ≡ total (layout command.DisplaySetting) ⌝ }
+    ensures { λ r. ⌜ settingValues r ≡ splitFrom 0 (layout command.DisplaySetting) (now (d .entry)) ⌝ }
+{
+    DisplaySetting {
+        long: byte_at(d, 0),
+        short: byte_at(d, 1),
+        rotate: byte_at(d, 2),
+    }
+}
+
+fn setting_data(q: DisplaySetting) -> Data
+    ensures { λ r. ⌜ Holds r (joinOnto [] (layout command.DisplaySetting) (settingValues q)) ⌝ }
+{
+    Data::EMPTY.byte(q.long).byte(q.short).byte(q.rotate)
+}
+
+// 02 00: X, Y, first pixel, first line, width, height.
+fn input_in(d: &[u8]) -> VideoInput
+    requires { ⌜ length (now d) ≡ total (layout command.VideoInput) ⌝ }
+    ensures { λ r. ⌜ inputValues r ≡ splitFrom 0 (layout command.VideoInput) (now (d .entry)) ⌝ }
+{
+    VideoInput {
+        x: word_at(d, 0),
+        y: word_at(d, 2),
+        pixel: word_at(d, 4),
+        line: word_at(d, 6),
+        width: word_at(d, 8),
+        height: word_at(d, 10),
+    }
+}
+
+fn input_data(q: VideoInput) -> Data
+    ensures { λ r. ⌜ Holds r (joinOnto [] (layout command.VideoInput) (inputValues q)) ⌝ }
+{
+    Data::EMPTY
+        .word(q.x)
+        .word(q.y)
+        .word(q.pixel)
+        .word(q.line)
+        .word(q.width)
+        .word(q.height)
+}
+
+// 02 01: frame rate, depth, LED.
+fn video_in(d: &[u8]) -> VideoMode
+    requires { ⌜ length (now d) ≡ total (layout command.VideoMode) ⌝ }
+    ensures { λ r. ⌜ videoValues r ≡ splitFrom 0 (layout command.VideoMode) (now (d .entry)) ⌝ }
+{
+    VideoMode {
+        rate: byte_at(d, 0),
+        depth: byte_at(d, 1),
+        led: byte_at(d, 2),
+    }
+}
+
+fn video_data(q: VideoMode) -> Data
+    ensures { λ r. ⌜ Holds r (joinOnto [] (layout command.VideoMode) (videoValues q)) ⌝ }
+{
+    Data::EMPTY.byte(q.rate).byte(q.depth).byte(q.led)
+}
+
+// 04 00: depth, count, inversion, trigger, delay, period, exposure, LED.
+fn sequence_in(d: &[u8]) -> PatternSequence
+    requires { ⌜ length (now d) ≡ total (layout command.PatternSequence) ⌝ }
+    ensures { λ r. ⌜ sequenceValues r ≡ splitFrom 0 (layout command.PatternSequence) (now (d .entry)) ⌝ }
+{
+    PatternSequence {
+        depth: byte_at(d, 0),
+        count: byte_at(d, 1),
+        inversion: byte_at(d, 2),
+        trigger: byte_at(d, 3),
+        delay: Microseconds(long_at(d, 4)),
+        period: Microseconds(long_at(d, 8)),
+        exposure: Microseconds(long_at(d, 12)),
+        led: byte_at(d, 16),
+    }
+}
+
+fn sequence_data(q: PatternSequence) -> Data
+    ensures { λ r. ⌜ Holds r (joinOnto [] (layout command.PatternSequence) (sequenceValues q)) ⌝ }
+{
+    Data::EMPTY
+        .byte(q.depth)
+        .byte(q.count)
+        .byte(q.inversion)
+        .byte(q.trigger)
+        .long(q.delay.0)
+        .long(q.period.0)
+        .long(q.exposure.0)
+        .byte(q.led)
 }

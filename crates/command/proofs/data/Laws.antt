@@ -1,16 +1,22 @@
--- Laws of data laid out in fields.
+-- Laws of data laid out in fields: what is cited of splitAll and joinAll, and of the code's forms of them.
 use Prim.Native.Nat.{ℕ, suc, _≤_, zero, _+_, _*_}
 use mathlib.Core.Path.{_≡_, refl, ap, ap₂, sym, _∙_}
-use mathlib.Core.List.{List, [], _∷_}
+use mathlib.Core.List.{List, [], _∷_, _++_, append-nil, append-assoc}
+use native.Mathlib.Nat.{add-zero}
 use native.Mathlib.Omega.{arith}
 use lib.ListN.{length, take, drop, length-append, take-append-drop, length-drop, getD}
 use lib.Seq.{take-at, drop-at, length-take-le, drop-drop, getD-drop}
 use Rattle.packet.specs.Number.{valueOf, bytesOf, Bytes}
 use Rattle.packet.specs.Packet.{sum}
-use Rattle.packet.proofs.NumberLaws.{bytes-append, bytes-take, bytes-drop, value-bytes, length-bytes, bytes-bytes, bytes-value, value-bound}
+use Rattle.packet.proofs.NumberLaws.{bytes-take, bytes-drop, value-bytes, length-bytes, bytes-value, value-bound}
 use Rattle.command.proofs.table.Laws.{Fit}
 use Rattle.command.specs.Data.{splitAll, joinAll}
+use Rattle.command.specs.Inner.{Holds, total, numberAt, splitFrom, joinOnto}
+use Rattle.command.specs.Table.{layout, sizeOf}
+use Rattle.command.specs.declared.table.Command.{Command}
+use Rattle.command.specs.declared.data.Data.{Data}
 
+-- as many numbers as fields
 pub split-length : (ws d : List ℕ) → length (splitAll ws d) ≡ length ws
 unfolding splitAll
 split-length [] d = refl
@@ -26,18 +32,14 @@ split-join (w ∷ ws) (v ∷ vs) h =
     rw (take-at (bytesOf w v) (joinAll ws vs) w (length-bytes w v), drop-at (bytesOf w v) (joinAll ws vs) w (length-bytes w v))
     (ap₂ {C = List ℕ} (λ a b. a ∷ b) (value-bytes w v (h .0)) (split-join ws vs (h .1)))
 
+-- the size of data that are put together
 pub length-join : (ws vs : List ℕ) → length vs ≡ length ws → length (joinAll ws vs) ≡ sum ws
 unfolding joinAll sum
 length-join [] vs h = refl
 length-join (w ∷ ws) [] h = absurd (omega arith)
 length-join (w ∷ ws) (v ∷ vs) h = simp (length-append, length-bytes, length-join ws vs (omega arith))
 
-pub bytes-join : (ws vs : List ℕ) → Bytes (joinAll ws vs)
-unfolding joinAll
-bytes-join [] vs = tt
-bytes-join (w ∷ ws) [] = tt
-bytes-join (w ∷ ws) (v ∷ vs) = bytes-append (bytesOf w v) (joinAll ws vs) (bytes-bytes w v) (bytes-join ws vs)
-
+-- what is read fits its field
 pub fit-split : (ws d : List ℕ) → Bytes d → sum ws ≤ length d → Fit ws (splitAll ws d)
 unfolding splitAll sum
 fit-split [] d h l = tt
@@ -55,31 +57,41 @@ join-split (w ∷ ws) d h l =
     let f : bytesOf w (valueOf (take w d)) ≡ take w d = rw e at (bytes-value (take w d) (bytes-take w d h)) in
     rw (f, join-split ws (drop w d) (bytes-drop w d h) (simp length-drop (omega arith))) (take-append-drop w d)
 
--- the number of so many bytes, each by its place
-abbrev pub valueBy : ℕ → (ℕ → ℕ) → ℕ
-valueBy zero f = 0
-valueBy (suc w) f = f 0 + 256 * valueBy w (λ k. f (suc k))
+-- the size by the widths is the table's
+pub size-layout : (c : Command) → total (layout c) ≡ sizeOf c
+unfolding sizeOf sum
+size-layout c = all (layout c)
+  where
+    all : (ws : List ℕ) → total ws ≡ sum ws
+    all [] = refl
+    all (w ∷ ws) = ap (λ n. w + n) (all ws)
 
-no-value : (w : ℕ) → valueBy w (λ k. 0) ≡ 0
-no-value zero = refl
-no-value (suc w) = let i = no-value w in omega arith
-
-value-first : (w : ℕ) (d : List ℕ) → valueOf (take w d) ≡ valueBy w (λ k. getD d k 0)
+-- the first of the bytes, then the others
+value-next : (w : ℕ) (d : List ℕ) → valueOf (take (suc w) d) ≡ getD d 0 0 + 256 * valueOf (take w (drop 1 d))
 unfolding valueOf
-value-first zero d = refl
-value-first (suc w) [] = sym (no-value (suc w))
-value-first (suc w) (b ∷ d) = ap (λ n. b + 256 * n) (value-first w d)
+value-next zero [] = refl
+value-next (suc w) [] = refl
+value-next w (b ∷ d) = refl
 
--- the number in the w bytes of d from a place on
-pub value-places : (w : ℕ) (d : List ℕ) (at : ℕ) → valueOf (take w (drop at d)) ≡ valueBy w (λ k. getD d (at + k) 0)
-value-places w d at = value-first w (drop at d) ∙ simp getD-drop
+-- what byte_at, word_at and long_at read
+pub number-at : (w : ℕ) (d : List ℕ) (at : ℕ) → numberAt w d at ≡ valueOf (take w (drop at d))
+unfolding valueOf
+number-at zero d at = refl
+number-at (suc w) d at = rw (number-at w d (at + 1)) (sym (value-next w (drop at d) ∙ simp (getD-drop, add-zero, drop-drop)))
 
 -- the fields of d, by their places
-unfoldable pub splitFrom : ℕ → List ℕ → List ℕ → List ℕ
-splitFrom at [] d = []
-splitFrom at (w ∷ ws) d = valueOf (take w (drop at d)) ∷ splitFrom (at + w) ws d
-
-pub split-places : (ws : List ℕ) (at : ℕ) (d : List ℕ) → splitAll ws (drop at d) ≡ splitFrom at ws d
-unfolding splitFrom splitAll
+pub split-places : (ws : List ℕ) (at : ℕ) (d : List ℕ) → splitFrom at ws d ≡ splitAll ws (drop at d)
+unfolding splitAll
 split-places [] at d = refl
-split-places (w ∷ ws) at d = ap {B = List ℕ} (λ t. valueOf (take w (drop at d)) ∷ t) (ap (splitAll ws) (drop-drop w at d) ∙ split-places ws (at + w) d)
+split-places (w ∷ ws) at d = ap₂ {C = List ℕ} (λ a b. a ∷ b) (number-at w d at) (split-places ws (at + w) d ∙ ap (splitAll ws) (sym (drop-drop w at d)))
+
+-- the bytes of the numbers, appended one after the other
+pub join-onto : (d ws vs : List ℕ) → joinOnto d ws vs ≡ d ++ joinAll ws vs
+unfolding joinAll
+join-onto d [] vs = sym (append-nil d)
+join-onto d (w ∷ ws) [] = sym (append-nil d)
+join-onto d (w ∷ ws) (v ∷ vs) = join-onto (d ++ bytesOf w v) ws vs ∙ append-assoc d (bytesOf w v) (joinAll ws vs)
+
+-- data put together field by field
+pub holds-join : (r : Data) (ws vs : List ℕ) → Holds r (joinOnto [] ws vs) → Holds r (joinAll ws vs)
+holds-join r ws vs h = rw (join-onto [] ws vs) at h

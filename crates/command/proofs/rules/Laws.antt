@@ -7,14 +7,15 @@ use native.Mathlib.Omega.{arith}
 use lib.Dec.{eqb}
 use borrow.Author.Tests.{not-true}
 use lib.ListN.{length, getD}
-use Rattle.packet.proofs.Cases.{cond-cases, and-left, and-right, and-both}
-use Rattle.command.specs.Table.{table, same, layout}
-use Rattle.command.specs.Rules.{oneOf, listed, allowed, blocked, allAllowed, settingsInRule}
+use Rattle.packet.proofs.Cases.{bool-cases, cond-cases, and-left, and-right, and-both}
+use Rattle.command.specs.Table.{table, cmd1For, cmd2For, find, commandOf, same, layout}
+use Rattle.command.specs.Rules.{allowed, blocked, allAllowed, settingsInRule}
 use Rattle.command.specs.Settings.{valuesOf, factory, valuesAfter, store}
 use Rattle.command.specs.declared.settings.Settings.{Settings}
 use Rattle.command.specs.declared.table.Command.{Command}
 use Rattle.command.specs.declared.table.Command.the-variants.{DisplayMode, TestPattern, LedCurrent, StaticColour, DisplaySetting, VideoInput, VideoMode, PatternSequence, SequenceRun}
-use Rattle.command.proofs.table.Laws.{each, same-eq, Fit, fit-length, values-settings}
+use Rattle.command.specs.declared.table.Found.the-variants.{Known}
+use Rattle.command.proofs.table.Laws.{each, found, find-later, same-eq, Fit, fit-length, values-settings}
 
 -- the settings keep the rules
 pub record Kept (s : Settings) : Type 0 where
@@ -25,48 +26,31 @@ pub record Kept (s : Settings) : Type 0 where
 abbrev pub Fits : Settings → Type 0
 Fits s = (c : Command) → Fit (layout c) (valuesOf c s)
 
-abbrev Every : (Command → Type 0) → List Command → Type 0
-Every P [] = Unit {0}
-Every P (c ∷ cs) = P c × Every P cs
-
-all-allowed : (s : Settings) (cs : List Command) → allAllowed s cs ≡ true → Every (λ c. allowed c (valuesOf c s) ≡ true) cs
-unfolding allAllowed
-all-allowed s [] h = tt
-all-allowed s (c ∷ cs) h =
-    (and-left (allowed c (valuesOf c s)) (allAllowed s cs) h, all-allowed s cs (and-right (allowed c (valuesOf c s)) (allAllowed s cs) h))
+all-allowed : (s : Settings) (cs : List Command) (c : Command) → find (cmd1For c) (cmd2For c) cs ≡ Known c → allAllowed s cs ≡ true → allowed c (valuesOf c s) ≡ true
+unfolding allAllowed find
+all-allowed s [] c e h = let z : _≡_ {A = ℕ} 0 1 = cc in absurd (omega arith)
+all-allowed s (d ∷ cs) c e h =
+    bool-cases (same c d)
+    (λ t. rw (same-eq c d t) (and-left _ (allAllowed s cs) h))
+    (λ t. all-allowed s cs c (find-later d cs (cmd1For c) (cmd2For c) (Known c) t e) (and-right (allowed d (valuesOf d s)) _ h))
 
 each-allowed : (s : Settings) → ((c : Command) → allowed c (valuesOf c s) ≡ true) → (cs : List Command) → allAllowed s cs ≡ true
 unfolding allAllowed
 each-allowed s h [] = refl
-each-allowed s h (c ∷ cs) = and-both (allowed c (valuesOf c s)) (allAllowed s cs) (h c) (each-allowed s h cs)
+each-allowed s h (c ∷ cs) = and-both _ _ (h c) (each-allowed s h cs)
 
 -- the test of refusal 3 says so
 pub kept-by : (s : Settings) → settingsInRule s ≡ true → Kept s
-unfolding settingsInRule
+unfolding settingsInRule commandOf
 kept-by s h =
-    let e = all-allowed s table (and-left (allAllowed s table) (not (blocked SequenceRun (valuesOf SequenceRun s) (s .mode))) h) in
     record {
-      values =
-          each (λ c. allowed c (valuesOf c s) ≡ true) (
-            e .0,
-            e .1 .0,
-            e .1 .1 .0,
-            e .1 .1 .1 .0,
-            e .1 .1 .1 .1 .0,
-            e .1 .1 .1 .1 .1 .0,
-            e .1 .1 .1 .1 .1 .1 .0,
-            e .1 .1 .1 .1 .1 .1 .1 .0,
-            e .1 .1 .1 .1 .1 .1 .1 .1 .0,
-          );
-      running =
-          not-true (blocked SequenceRun (valuesOf SequenceRun s) (s .mode))
-          (and-right (allAllowed s table) (not (blocked SequenceRun (valuesOf SequenceRun s) (s .mode))) h);
+      values = λ c. all-allowed s table c (found c) (and-left _ _ h);
+      running = not-true _ (and-right (allAllowed s table) _ h);
     }
 
 pub in-rule-of : (s : Settings) → Kept s → settingsInRule s ≡ true
 unfolding settingsInRule
-in-rule-of s k =
-    and-both (allAllowed s table) (not (blocked SequenceRun (valuesOf SequenceRun s) (s .mode))) (each-allowed s (k .values) table) (ap not (k .running))
+in-rule-of s k = and-both _ _ (each-allowed s (k .values) table) (ap not (k .running))
 
 -- a write that may be carried out in a display mode
 pub record Writable (mode : ℕ) (c : Command) (v : List ℕ) : Type 0 where
@@ -87,23 +71,15 @@ after-cases P c v s w z k e =
     (λ x. subst (λ (d : Command). P d v) (sym (same-eq e c x)) w)
     (λ _.
     cond-cases (P e) (same c DisplayMode && same e SequenceRun && not (eqb (getD v 0 0) 4))
-    (λ x. subst (λ (d : Command). P d (0 ∷ [])) (sym (same-eq e SequenceRun (stops (same c DisplayMode) (same e SequenceRun) (not (eqb (getD v 0 0) 4)) x))) z)
+    (λ x. subst (λ (d : Command). P d (0 ∷ [])) (sym (same-eq e SequenceRun (and-right (same c DisplayMode) _ (and-left _ _ x)))) z)
     (λ _. k e))
-  where
-    stops : (a b d : Bool) → (a && b && d) ≡ true → b ≡ true
-    stops true true d h = refl
-    stops true false d h = h
-    stops false b d h = let y : _≡_ {A = ℕ} 0 1 = cc in absurd (omega arith)
-
-abbrev Long : Command → List ℕ → Type 0
-Long e v = length v ≡ length (layout e)
 
 pub length-values : (s : Settings) (e : Command) → length (valuesOf e s) ≡ length (layout e)
 length-values s = each (λ e. length (valuesOf e s) ≡ length (layout e)) (refl, refl, refl, refl, refl, refl, refl, refl, refl)
 
 pub values-store : (c : Command) (v : List ℕ) (s : Settings) → length v ≡ length (layout c) → (e : Command) → valuesOf e (store c v s) ≡ valuesAfter c v s e
 unfolding store
-values-store c v s h e = values-settings e (valuesAfter c v s) (after-cases Long c v s h refl (length-values s) e)
+values-store c v s h e = values-settings e (valuesAfter c v s) (after-cases (λ e x. length x ≡ length (layout e)) c v s h refl (length-values s) e)
 
 stopped : (b : Bool) (r : ℕ) → (eqb (getD (cond (not b) (0 ∷ []) (r ∷ [])) 0 0) 1 && not b) ≡ false
 stopped true r = and-false (eqb r 1)
@@ -128,7 +104,7 @@ kept-store c v s k w =
     record {
       values = λ e.
           subst (λ (x : List ℕ). allowed e x ≡ true) (sym (values-store c v s (w .full) e))
-          (after-cases (λ e x. allowed e x ≡ true) c v s (w .values) (unfold allowed in refl) (k .values) e);
+          (after-cases (λ e x. allowed e x ≡ true) c v s (w .values) refl (k .values) e);
       running = running-after c v s k (w .free);
     }
 
@@ -139,7 +115,7 @@ fits-store c v s k w e =
 
 -- the factory values do
 pub kept-factory : Kept factory
-unfolding factory allowed blocked oneOf listed
+unfolding factory blocked
 kept-factory =
     record {
       values = each (λ c. allowed c (valuesOf c factory) ≡ true) (refl, refl, refl, refl, refl, refl, refl, refl, refl);

@@ -1,7 +1,7 @@
 -- Laws of the table, and of settings as lists of values.
 use Prim.Native.Nat.{ℕ, zero, suc, _^_, _<_, _≤_}
-use mathlib.Core.Path.{_≡_, refl, ap, sym, subst, _∙_}
-use mathlib.Core.Bool.{Bool, true, cond}
+use mathlib.Core.Path.{_≡_, refl, ap, sym, _∙_}
+use mathlib.Core.Bool.{Bool, true, false, cond}
 use mathlib.Core.List.{List, [], _∷_}
 use native.Mathlib.Omega.{arith}
 use lib.Dec.{eqb}
@@ -13,6 +13,7 @@ use Rattle.command.specs.Table.{table, cmd1For, cmd2For, hasCode, find, 
 use Rattle.command.specs.Settings.{valuesOf, settingsOf}
 use Rattle.command.specs.declared.table.Command.{Command}
 use Rattle.command.specs.declared.table.Command.the-variants.{DisplayMode, TestPattern, LedCurrent, StaticColour, DisplaySetting, VideoInput, VideoMode, PatternSequence, SequenceRun}
+use Rattle.command.specs.declared.table.Found.{Found}
 use Rattle.command.specs.declared.table.Found.the-variants.{Known}
 
 -- what holds of each command of the table holds of all
@@ -35,17 +36,22 @@ pub found : (c : Command) → commandOf (cmd1For c) (cmd2For c) ≡ Known c
 unfolding commandOf find
 found = each (λ c. commandOf (cmd1For c) (cmd2For c) ≡ Known c) (refl, refl, refl, refl, refl, refl, refl, refl, refl)
 
+has-code : (a b : ℕ) (c : Command) → hasCode a b c ≡ true → (a ≡ cmd1For c) × (b ≡ cmd2For c)
+has-code a b c h = (eqb-true _ _ (and-left _ _ h), eqb-true _ _ (and-right (eqb a (cmd1For c)) _ h))
+
+-- where the first command has other bytes, the search goes on
+pub find-later : (d : Command) (cs : List Command) (a b : ℕ) (f : Found) → hasCode a b d ≡ false → find a b (d ∷ cs) ≡ f → find a b cs ≡ f
+unfolding find
+find-later d cs a b f e h = sym (ap (λ (t : Bool). cond t (Known d) (find a b cs)) e) ∙ h
+
 -- what is found has those bytes
 find-code : (cs : List Command) (a b : ℕ) (c : Command) → find a b cs ≡ Known c → (a ≡ cmd1For c) × (b ≡ cmd2For c)
 unfolding find
 find-code [] a b c h = let z : _≡_ {A = ℕ} 0 1 = cc in absurd (omega arith)
 find-code (d ∷ cs) a b c h =
     bool-cases (hasCode a b d)
-    (λ e.
-    let k : d ≡ c = same-known d c (sym (ap (λ (t : Bool). cond t (Known d) (find a b cs)) e) ∙ h) in
-    subst (λ (x : Command). (a ≡ cmd1For x) × (b ≡ cmd2For x)) k
-    (eqb-true a (cmd1For d) (and-left (eqb a (cmd1For d)) (eqb b (cmd2For d)) e), eqb-true b (cmd2For d) (and-right (eqb a (cmd1For d)) (eqb b (cmd2For d)) e)))
-    (λ e. find-code cs a b c (sym (ap (λ (t : Bool). cond t (Known d) (find a b cs)) e) ∙ h))
+    (λ e. rw (same-known d c (sym (ap (λ (t : Bool). cond t (Known d) (find a b cs)) e) ∙ h)) at (has-code a b d e))
+    (λ e. find-code cs a b c (find-later d cs a b (Known c) e h))
   where
     same-known : (x y : Command) → Known x ≡ Known y → x ≡ y
     same-known x y e = cc
@@ -55,10 +61,7 @@ unfolding commandOf
 known-code a b c h = find-code table a b c h
 
 pub same-eq : (a b : Command) → same a b ≡ true → a ≡ b
-same-eq a b h =
-    let e : cmd1For a ≡ cmd1For b = eqb-true (cmd1For a) (cmd1For b) (and-left (eqb (cmd1For a) (cmd1For b)) (eqb (cmd2For a) (cmd2For b)) h) in
-    let f : cmd2For a ≡ cmd2For b = eqb-true (cmd2For a) (cmd2For b) (and-right (eqb (cmd1For a) (cmd1For b)) (eqb (cmd2For a) (cmd2For b)) h) in
-    cc (found a, found b)
+same-eq a b h = let e = has-code (cmd1For a) (cmd2For a) b h in cc (found a, found b)
 
 -- the data of every command are short
 pub size-small : (c : Command) → sizeOf c ≤ 17
@@ -91,12 +94,6 @@ fit-length (w ∷ ws) (v ∷ vs) h = ap suc (fit-length ws vs (h .1))
 
 -- settings made from lists of values have those values
 pub values-settings : (c : Command) (f : Command → List ℕ) → length (f c) ≡ length (layout c) → valuesOf c (settingsOf f) ≡ f c
-values-settings DisplayMode f h = full 1 (f DisplayMode) h
-values-settings TestPattern f h = full 1 (f TestPattern) h
-values-settings LedCurrent f h = full 3 (f LedCurrent) h
-values-settings StaticColour f h = full 4 (f StaticColour) h
-values-settings DisplaySetting f h = full 3 (f DisplaySetting) h
-values-settings VideoInput f h = full 6 (f VideoInput) h
-values-settings VideoMode f h = full 3 (f VideoMode) h
-values-settings PatternSequence f h = full 8 (f PatternSequence) h
-values-settings SequenceRun f h = full 1 (f SequenceRun) h
+values-settings c f h =
+    each (λ c. valuesOf c (settingsOf f) ≡ tab (length (layout c)) (λ i. getD (f c) i 0)) (refl, refl, refl, refl, refl, refl, refl, refl, refl) c
+    ∙ full (length (layout c)) (f c) h

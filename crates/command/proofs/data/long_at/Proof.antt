@@ -1,27 +1,14 @@
--- `long_at` meets its contract.
-use native.Mathlib.Nat.{add-zero}
+-- `long_at` meets its contract: two numbers of two bytes.
+use native.Mathlib.Nat.{add-assoc}
 use native.Mathlib.Omega.{arith}
-use Rattle.command.proofs.data.Laws.{value-places}
 use borrow.Author.Needs.{needs}
 use Rattle.command.proofs.data.long_at.Statement.{statement}
 use Rattle.command.proofs.data.long_at.Tie as tie
-
-returns : tie.Need-returns
-returns c =
-    let a = c .before .before .before .before .before .before .before .before .before .args in
-    rw (value-places 4 (a .d .now) (a .at), add-zero (a .at)) (omega arith)
 
 pub long-at-spec : {M : Type 1} → statement M
 long-at-spec =
     tie.close
     (tie.spec
-    (λ c. search needs)
-    (λ c κs. search needs)
-    (λ c. search needs)
-    (λ c. search needs)
-    (λ c κs. search needs)
-    (λ c. search needs)
-    (λ c. search needs)
     (λ c κs. search needs)
     (λ c. search needs)
     (λ c. search needs)
@@ -29,7 +16,4 @@ long-at-spec =
     (λ c. search needs)
     (λ c. search needs)
     (λ c. search needs)
-    (λ c. search needs)
-    (λ c. search needs)
-    (λ c. search needs)
-    returns)
+    (λ c. rw (c .word-at2 .ensures, c .before .word-at .ensures) (simp add-assoc (omega arith))))

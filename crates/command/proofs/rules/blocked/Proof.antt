@@ -1,44 +1,29 @@
--- `blocked` meets its contract: no command but 04 02 is blocked.
-use Prim.Native.Nat.{ℕ}
-use mathlib.Core.Path.{_≡_, refl}
-use mathlib.Core.Bool.{false}
-use mathlib.Core.List.{List, [], _∷_}
-use types.Run.{OneOf, miss}
-use denote.Enum.Declared.{tagOf}
+-- `blocked` meets its contract: a value without an arm of its own is not a sequence run.
+use mathlib.Core.List.{[], _∷_}
+use types.Run.{miss}
+use Rattle.packet.proofs.Cases.{bool-cases}
+use Rattle.command.specs.Table.{same}
 use Rattle.command.specs.Rules.{blocked}
-use Rattle.command.specs.Value.{commandIn, valuesIn}
-use Rattle.command.specs.declared.value.Value.{Value}
-use Rattle.command.specs.declared.value.Value.the-variants.{DisplayMode, TestPattern, LedCurrent, StaticColour, DisplaySetting, VideoInput, VideoMode, PatternSequence, SequenceRun}
-use Rattle.command.proofs.value.Value.{the-type}
+use Rattle.command.specs.Value.{commandIn}
+use Rattle.command.specs.declared.table.Command.the-variants.{SequenceRun}
+use Rattle.command.proofs.table.Laws.{same-eq}
+use Rattle.command.proofs.value.Laws.{tag-value}
 use borrow.Author.Needs.{needs}
 use Rattle.command.proofs.rules.blocked.Statement.{statement}
 use Rattle.command.proofs.rules.blocked.Tie as tie
 
-abbrev rest : List ℕ
-rest = 0 ∷ 1 ∷ 2 ∷ 3 ∷ 4 ∷ 5 ∷ 6 ∷ 7 ∷ []
-
-others : (v : Value) (mode : ℕ) → OneOf rest (tagOf the-type v) → false ≡ blocked (commandIn v) (valuesIn v) mode
-unfolding blocked
-others (DisplayMode m) mode h = refl
-others (TestPattern p) mode h = refl
-others (LedCurrent q) mode h = refl
-others (StaticColour q) mode h = refl
-others (DisplaySetting q) mode h = refl
-others (VideoInput q) mode h = refl
-others (VideoMode q) mode h = refl
-others (PatternSequence q) mode h = refl
-others (SequenceRun r) mode h = absurd (miss rest 8 tt h)
-
-returns : tie.Need-returns
-unfolding blocked
-returns c = rw (c .before .v .given .1)
-
 returns-2 : tie.Need-returns-2
-returns-2 c = others (c .before .args .v) (c .before .args .mode) (c .match .keys2)
+unfolding blocked
+returns-2 c =
+    let v = c .before .args .v in
+    bool-cases (same (commandIn v) SequenceRun)
+    (λ e. absurd (miss (0 ∷ 1 ∷ 2 ∷ 3 ∷ 4 ∷ 5 ∷ 6 ∷ 7 ∷ []) 8 tt (rw (tag-value v, same-eq (commandIn v) SequenceRun e) at (c .match .keys2))))
+    (λ e. rw e)
 
 pub blocked-spec : {M : Type 1} → statement M
+unfolding blocked
 blocked-spec =
     tie.close (tie.spec
     (λ c. search needs)
-    returns
+    (λ c. rw (c .before .v .given .1))
     returns-2)

@@ -5,18 +5,6 @@ use borrow.Author.Needs.{needs}
 use Rattle.command.proofs.settings.stored.Statement.{statement}
 use Rattle.command.proofs.settings.stored.Tie as tie
 
-returns : tie.Need-returns
-unfolding store valuesAfter
-returns c =
-    let g = c .before .before .v .given in
-    rw (g .1, ne-eqb (g .0 .0) 4 (c .if1 .taken))
-
-returns-2 : tie.Need-returns-2
-unfolding store valuesAfter
-returns-2 c =
-    let g = c .before .before .v .given in
-    rw (g .1, eq-eqb (g .0 .0) 4 (c .if1 .left))
-
 pub stored-spec : {M : Type 1} → statement M
 unfolding store valuesAfter
 stored-spec =
@@ -31,8 +19,8 @@ stored-spec =
     (λ c. search needs)
     (λ c. search needs)
     (λ c. search needs)
-    returns
-    returns-2
+    (λ c. let g = c .before .before .v .given in rw (g .1, ne-eqb (g .0 .0) 4 (c .if1 .taken)))
+    (λ c. let g = c .before .before .v .given in rw (g .1, eq-eqb (g .0 .0) 4 (c .if1 .left)))
     (λ c. rw (c .before .v2 .given .1))
     (λ c. rw (c .before .v3 .given .1))
     (λ c. rw (c .before .v4 .given .1))

@@ -1,20 +1,8 @@
--- `colour_data` meets its contract: the fields stand one behind the other.
-use mathlib.Core.List.{append-nil, append-assoc}
+-- `colour_data` meets its contract: the fields stand one after the other.
 use native.Mathlib.Omega.{arith}
-use Rattle.command.specs.Data.{joinAll}
 use borrow.Author.Needs.{needs}
 use Rattle.command.proofs.value.colour_data.Statement.{statement}
 use Rattle.command.proofs.value.colour_data.Tie as tie
-
-returns : tie.Need-returns
-unfolding joinAll
-returns c =
-    let d = c .before .before .before in
-    record {
-      bytes =
-          simp (c .byte4 .ensures .0, c .before .byte3 .ensures .0, c .before .before .byte2 .ensures .0, d .byte .ensures .0, append-assoc, append-nil);
-      room = omega arith;
-    }
 
 pub colour-data-spec : {M : Type 1} → statement M
 colour-data-spec =
@@ -23,4 +11,4 @@ colour-data-spec =
     (λ c κs. search needs)
     (λ c κs. search needs)
     (λ c κs. search needs)
-    returns)
+    (λ c. record { bytes = cc; room = omega arith }))

@@ -1,14 +1,8 @@
--- `current_data` meets its contract: the fields stand one behind the other.
-use mathlib.Core.List.{append-nil, append-assoc}
+-- `current_data` meets its contract: the fields stand one after the other.
 use native.Mathlib.Omega.{arith}
-use Rattle.command.specs.Data.{joinAll}
 use borrow.Author.Needs.{needs}
 use Rattle.command.proofs.value.current_data.Statement.{statement}
 use Rattle.command.proofs.value.current_data.Tie as tie
-
-returns : tie.Need-returns
-unfolding joinAll
-returns c = record { bytes = simp (c .word3 .ensures .0, c .before .word2 .ensures .0, c .before .before .word .ensures .0, append-assoc, append-nil); room = omega arith }
 
 pub current-data-spec : {M : Type 1} → statement M
 current-data-spec =
@@ -16,4 +10,4 @@ current-data-spec =
     (λ c κs. search needs)
     (λ c κs. search needs)
     (λ c κs. search needs)
-    returns)
+    (λ c. record { bytes = cc; room = omega arith }))

@@ -2,10 +2,10 @@
 use mathlib.Core.Path.{ap, sym, _∙_}
 use borrow.Author.Tests.{eq-eqb, ne-eqb}
 use denote.Ref.{now}
-use lib.ListN.{length}
-use Rattle.command.specs.Table.{sizeOf}
-use Rattle.command.specs.Value.{parsed}
+use Rattle.command.specs.Table.{layout}
+use Rattle.command.specs.Value.{valueFrom, parsed}
 use Rattle.command.specs.declared.value.Parsed.the-variants.{Values}
+use Rattle.command.proofs.data.Laws.{size-layout, split-places}
 use borrow.Author.Needs.{needs}
 use Rattle.command.proofs.value.parse.Statement.{statement}
 use Rattle.command.proofs.value.parse.Tie as tie
@@ -14,22 +14,19 @@ returns : tie.Need-returns
 unfolding parsed
 returns c =
     let a = c .before .before .before .args in
-    rw (ne-eqb (length (now (a .d))) (sizeOf (a .c)) (λ e. c .if1 .taken (e ∙ sym (c .before .size .ensures))))
-
-from-requires : tie.Need-from-requires
-from-requires c κs = c .if1 .left ∙ c .before .size .ensures
+    rw (← size-layout (a .c), ne-eqb _ _ (λ e. c .if1 .taken (e ∙ sym (c .before .size .ensures))))
 
 returns-2 : tie.Need-returns-2
 unfolding parsed
 returns-2 c =
-    let t = c .before in
-    let a = t .before .before .before .args in
-    rw (eq-eqb (length (now (a .d))) (sizeOf (a .c)) (t .if1 .left ∙ t .before .size .ensures)) (ap Values (c .from .ensures))
+    let a = c .before .before .before .before .args in
+    rw (← size-layout (a .c), eq-eqb _ _ (c .before .if1 .left ∙ c .before .before .size .ensures))
+    (ap Values (c .from .ensures ∙ ap (valueFrom (a .c)) (split-places (layout (a .c)) 0 (now (a .d)))))
 
 pub parse-spec : {M : Type 1} → statement M
 parse-spec =
     tie.close (tie.spec
     (λ c κs. search needs)
     returns
-    from-requires
+    (λ c κs. c .if1 .left ∙ c .before .size .ensures)
     returns-2)

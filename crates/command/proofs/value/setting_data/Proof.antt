@@ -1,14 +1,8 @@
--- `setting_data` meets its contract: the fields stand one behind the other.
-use mathlib.Core.List.{append-nil, append-assoc}
+-- `setting_data` meets its contract: the fields stand one after the other.
 use native.Mathlib.Omega.{arith}
-use Rattle.command.specs.Data.{joinAll}
 use borrow.Author.Needs.{needs}
 use Rattle.command.proofs.value.setting_data.Statement.{statement}
 use Rattle.command.proofs.value.setting_data.Tie as tie
-
-returns : tie.Need-returns
-unfolding joinAll
-returns c = record { bytes = simp (c .byte3 .ensures .0, c .before .byte2 .ensures .0, c .before .before .byte .ensures .0, append-assoc, append-nil); room = omega arith }
 
 pub setting-data-spec : {M : Type 1} → statement M
 setting-data-spec =
@@ -16,4 +10,4 @@ setting-data-spec =
     (λ c κs. search needs)
     (λ c κs. search needs)
     (λ c κs. search needs)
-    returns)
+    (λ c. record { bytes = cc; room = omega arith }))

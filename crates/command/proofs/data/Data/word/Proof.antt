@@ -8,15 +8,13 @@ use borrow.Author.Needs.{needs}
 use Rattle.command.proofs.data.Data.word.Statement.{statement}
 use Rattle.command.proofs.data.Data.word.Tie as tie
 
-returns : tie.Need-returns
-unfolding bytesOf
-returns c = (simp (c .byte2 .ensures .0, c .before .byte .ensures .0, append-assoc (contents (c .before .before .args .self)), mod-mod), omega arith)
-
 pub word-spec : {M : Type 1} → statement M
+unfolding bytesOf
 word-spec =
     tie.close (tie.spec
     (λ c. search needs)
     (λ c κs. search needs)
     (λ c. search needs)
     (λ c κs. search needs)
-    returns)
+    (λ c.
+    (simp (c .byte2 .ensures .0, c .before .byte .ensures .0, append-assoc (contents (c .before .before .args .self)), mod-mod), omega arith)))
