@@ -1,13 +1,13 @@
 -- Demand 1: bad packets and bad calls.
 use Prim.Native.Nat.{ℕ, _<_, _≤_}
 use mathlib.Core.Path.{_≡_, refl, subst, _∙_}
-use mathlib.Core.Bool.{Bool, true, false, _&&_, _||_}
+use mathlib.Core.Bool.{Bool, true, false, _&&_}
 use mathlib.Core.List.{List, [], _∷_}
 use native.Mathlib.Omega.{arith}
 use lib.Dec.{eqb}
 use borrow.Author.Tests.{lt-ltb, le-ltb}
 use lib.ListN.{length}
-use Rattle.packet.specs.Packet.{packetOf, cmd1Of, cmd2Of, error, whole, last, hostRead}
+use Rattle.packet.specs.Packet.{packetOf, cmd1Of, cmd2Of, error, whole, hostRead}
 use Rattle.packet.proofs.Cases.{cond-cases, and-left, and-right}
 use Rattle.command.specs.Table.{commandOf, layout, sizeOf}
 use Rattle.command.specs.Rules.{allowed, blocked}
@@ -18,7 +18,7 @@ use Rattle.command.specs.declared.table.Found.the-variants.{Known, Unkno
 use Rattle.command.specs.Data.{splitAll}
 use Rattle.command.specs.Transfer.{Transfer, Closed}
 use Rattle.command.specs.Faults.{Arrived, arrived, faults, anyFault, sizeFault, valueFault, modeFault, listIf, codesOf}
-use Rattle.command.specs.Judgement.{judgeWrite, judgeRead, judgeData, judge}
+use Rattle.command.specs.Judgement.{judgeWrite, judgeRead, completes, judgeData, judge}
 use Rattle.command.specs.Carry.{settingsAfter}
 use Rattle.command.specs.Response.{response}
 use Rattle.command.specs.Player.{State, judged, next, judgements, after}
@@ -86,7 +86,7 @@ module _ (P : Codes → Type 0) (s : P sizeFault) (v : P valueFault) (m : P mode
   unfolding judgeData judgeRead
   refused-data Unknown mode type flags d = s
   refused-data (Known c) mode type flags d =
-      cond-cases (IfRefused P) (eqb flags whole || eqb flags last)
+      cond-cases (IfRefused P) (completes flags)
       (λ _.
       cond-cases (IfRefused P) (eqb type hostRead)
       (λ _. cond-cases (IfRefused P) (eqb (length d) 0) (λ _. tt) (λ _. s))

@@ -25,7 +25,7 @@ use Rattle.command.proofs.table.Laws.{Fit, fit-length, each, found}
 use Rattle.command.proofs.rules.Laws.{values-store}
 use Rattle.command.proofs.encoder.Laws.{plain, arrived-plain, next-write, encoder-judged}
 use mathlib.Core.Option.{some}
-use lib.Seq.{sets, sets-eq, length-sets, take-set-le, getD-take, take-at, drop-at, length-take-le}
+use lib.Seq.{sets, sets-eq, take-set-le, getD-take, take-at, drop-at, length-take-le}
 use Rattle.packet.specs.Stream.{size, hasPacket, packets, rest}
 use Rattle.packet.specs.Receiver.{with, waiting as receiverWaiting}
 use Rattle.packet.specs.Writer.{written}
@@ -42,7 +42,7 @@ use Rattle.command.specs.declared.table.Found.{Found}
 use Rattle.command.specs.declared.judgement.Judgement.{Judgement}
 use Rattle.command.specs.declared.transfer.TransferState.{TransferState}
 use Rattle.command.specs.declared.controller.Controller.{Controller}
-use Rattle.command.proofs.transfer.Laws.{fits-hold, by-transfer, none-open, one-open, held-is, held-length}
+use Rattle.command.proofs.transfer.Laws.{fits-hold, by-transfer, held-is, held-length}
 use Rattle.command.proofs.controller.Laws.{Rule, rule-parts}
 use Rattle.command.proofs.endpoint.Laws.{serves, shown, Ready, not-refused, stays-in-rule, endpoint-streams, Bounded, bounded}
 use Rattle.command.specs.declared.value.Value.{Value}
@@ -94,15 +94,9 @@ take-sets : (xs l : List ℕ) (i j : ℕ) → i ≤ j → take i (sets l j xs) �
 take-sets [] l i j h = refl
 take-sets (x ∷ xs) l i j h = take-sets xs (set l j x) i (suc j) (omega arith) ∙ take-set-le i l j x h
 
-same-transfer : (t : TransferState) (hold xs : List ℕ) → transferInRule t ≡ true → length hold ≡ 1024 → transferIn t (sets hold (heldIn t) xs) ≡ transferIn t hold
-same-transfer t hold xs r n =
-    let m : length (sets hold (heldIn t) xs) ≡ 1024 = length-sets hold (heldIn t) xs ∙ n in
-    by-transfer t hold r n
-    (λ e. none-open t (sets hold (heldIn t) xs) r m e .0 ∙ sym (none-open t hold r n e .0))
-    (λ c e k.
-    one-open t (sets hold (heldIn t) xs) r m c e k .0
-    ∙ ap (Opened c) (take-sets xs hold (t .held) (heldIn t) (omega (arith, one-open t hold r n c e k .1)))
-    ∙ sym (one-open t hold r n c e k .0))
+same-transfer : (t : TransferState) (hold xs : List ℕ) → transferInRule t ≡ true → transferIn t (sets hold (heldIn t) xs) ≡ transferIn t hold
+same-transfer t hold xs r =
+    by-transfer t r (λ e. rw e) (λ c e k. rw (e, k) (ap (Opened c) (take-sets xs hold (t .held) (t .held) (omega arith))))
 
 -- a packet with another payload
 abbrev withBody : Arrived → List ℕ → Arrived
@@ -153,10 +147,10 @@ module _ (c : Controller) (k : Ready c) (p : List ℕ) (i : IsPacket p) where
   rule = rule-parts c (k .rule)
 
   transfer-same : transferIn (c .transfer) stored ≡ transferIn (c .transfer) (c .receiver .hold)
-  transfer-same = same-transfer (c .transfer) (c .receiver .hold) (payload p) (rule .transfer) (k .made .hold)
+  transfer-same = same-transfer (c .transfer) (c .receiver .hold) (payload p) (rule .transfer)
 
   held-same : length (held (transferIn (c .transfer) (c .receiver .hold))) ≡ h
-  held-same = held-length (c .transfer) (c .receiver .hold) (rule .transfer) (k .made .hold)
+  held-same = held-length (c .transfer) (rule .transfer) (c .receiver .hold) (k .made .hold)
 
   -- a payload that fits stands in the hold behind the held bytes
   stands : h + payloadLength p ≤ 1024 → (take (payloadLength p) (drop h stored) ≡ payload p) × (take (h + payloadLength p) stored ≡ take h (c .receiver .hold) ++ payload p)
@@ -194,7 +188,7 @@ module _ (c : Controller) (k : Ready c) (p : List ℕ) (i : IsPacket p) where
   carried-state (Hold d) b =
       ap (λ (t : Transfer). record { settings = c .settings; transfer = t })
       (rw (found d, getD-take 6 p 4 0 (omega arith), getD-take 6 p 5 0 (omega arith))
-      (ap (Opened d) (stands b .1 ∙ ap (λ (x : List ℕ). x ++ payload p) (sym (held-is (c .transfer) (c .receiver .hold) (rule .transfer) (k .made .hold))))))
+      (ap (Opened d) (stands b .1 ∙ ap (λ (x : List ℕ). x ++ payload p) (sym (held-is (c .transfer) (rule .transfer) (c .receiver .hold))))))
   carried-state (Write v) b = refl
   carried-state (Read d) b = ap (λ (t : Transfer). record { settings = c .settings; transfer = t }) transfer-same
 
@@ -212,7 +206,7 @@ unfolding with
 part-state c b k q =
     let n : heldIn (c .transfer) + (c .receiver .received - 6) ≡ heldIn (c .transfer) = omega (arith, q .received) in
     ap (λ (t : Transfer). record { settings = c .settings; transfer = t })
-    (rw n (same-transfer (c .transfer) (c .receiver .hold) (drop (6 - c .receiver .received) b) (rule-parts c (k .rule) .transfer) (k .made .hold)))
+    (rw n (same-transfer (c .transfer) (c .receiver .hold) (drop (6 - c .receiver .received) b) (rule-parts c (k .rule) .transfer)))
 
 -- What the calls on a stream answered and left is what playing its packets says: the responses in order, the settings and the open transfer,
 -- and the receiver, which has what is left of the stream.

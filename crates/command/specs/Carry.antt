@@ -1,5 +1,4 @@
 -- How a complete packet is judged, what a judgement changes, and the response that it draws.
-use Prim.Native.Nat.{_+_}
 use mathlib.Core.List.{_++_}
 use Rattle.command.specs.Settings.{store}
 use Rattle.command.specs.Value.{commandIn, valuesIn}

@@ -1,9 +1,9 @@
 -- An open transfer by the controller's numbers: its held data are the first bytes of the hold.
-use Prim.Native.Nat.{ℕ, _+_, _≤_}
-use mathlib.Core.Bool.{Bool, false, cond, not, _&&_}
+use Prim.Native.Nat.{ℕ, _≤_}
+use mathlib.Core.Bool.{Bool, false, not, _&&_}
 use mathlib.Core.List.{List}
 use lib.Dec.{eqb}
-use lib.ListN.{take, length}
+use lib.ListN.{take}
 use Rattle.command.specs.Table.{hasCode}
 use Rattle.command.specs.declared.table.Found.{Found}
 use Rattle.command.specs.declared.table.Found.the-variants.{Known, Unknown}
@@ -14,7 +14,6 @@ use Rattle.command.specs.declared.controller.Controller.{Controller}
 use Rattle.command.specs.declared.controller.Parts.{Parts}
 use mathlib.Core.Path.{_≡_}
 use Rattle.command.specs.declared.data.Data.{Data}
-use Rattle.packet.specs.Writer.{fits}
 
 abbrev pub isOpenIn : TransferState → Bool
 isOpenIn t = not (eqb (t .active) 0)
@@ -55,7 +54,3 @@ contents d = take (d .length) (d .bytes)
 pub record Holds (d : Data) (b : List ℕ) : Type 0 where
   pub bytes : contents d ≡ b
   pub room : d .length ≤ 17
-
--- none where the packet of these data does not go into an output of so many bytes
-abbrev pub lengthIn : ℕ → List ℕ → ℕ
-lengthIn room d = cond (fits room d) (length d + 7) 0

@@ -1,6 +1,6 @@
 -- How a complete packet is judged, what a judgement changes, and the response that it draws.
-use Prim.Native.Nat.{ℕ, _+_}
-use mathlib.Core.Bool.{cond, _||_}
+use Prim.Native.Nat.{ℕ}
+use mathlib.Core.Bool.{Bool, cond, _||_}
 use mathlib.Core.List.{List, _++_}
 use lib.Dec.{eqb}
 use lib.ListN.{length}
@@ -30,11 +30,15 @@ judgeWrite c mode d =
 unfoldable pub judgeRead : Command → ℕ → Judgement
 judgeRead c n = cond (eqb n 0) (Read c) (Refuse sizeFault)
 
+-- flags 00 or 03
+abbrev pub completes : ℕ → Bool
+completes f = eqb f whole || eqb f last
+
 -- with none of the first group, d being the joined data; only for flags 00 or 03 are they complete (an unknown command has drawn 02)
 unfoldable pub judgeData : Found → ℕ → ℕ → ℕ → List ℕ → Judgement
 judgeData Unknown mode type flags d = Refuse sizeFault
 judgeData (Known c) mode type flags d =
-    cond (eqb flags whole || eqb flags last) (cond (eqb type hostRead) (judgeRead c (length d)) (judgeWrite c mode d)) (Hold c)
+    cond (completes flags) (cond (eqb type hostRead) (judgeRead c (length d)) (judgeWrite c mode d)) (Hold c)
 
 -- how a complete packet is judged in a display mode, with a transfer open or none
 unfoldable pub judge : ℕ → Transfer → Arrived → Judgement

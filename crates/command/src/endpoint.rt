@@ -5,6 +5,7 @@ use crate::controller::Controller;
 use crate::controller::Parts;
 use crate::controller::in_rule;
 use crate::judgement::judge;
+use crate::output::OUTPUT;
 use crate::response::respond;
 use packet::Receiver;
 use packet::put_header;
@@ -54,14 +55,11 @@ fn settle(p: Parts, right: bool, taken: usize, hold: &[u8], out: &mut [u8]) -> S
         parts: Parts {
             settings: settings_after(p.settings, j),
             transfer: transfer_after(p.transfer, n, j),
-            header: header,
+            header,
             sum: p.sum,
             received: p.received,
         },
-        answer: Answer::Answered {
-            taken: taken,
-            length: length,
-        },
+        answer: Answer::Answered { taken, length },
     }
 }
 
@@ -94,7 +92,7 @@ pub(crate) fn serve(p: Parts, hold: &mut [u8; 1024], input: &[u8], out: &mut [u8
         × (now (out .exit) ≡ receiveCall (controllerOf p (now (hold .entry))) (now (input .entry)) (now (out .entry)) .output) ⌝ }
 {
     let ruled = in_rule(p);
-    if out.len() < 64 {
+    if out.len() < OUTPUT {
         return Served {
             parts: p,
             answer: Answer::ShortOutput,
@@ -126,9 +124,9 @@ pub fn receive(c: Controller, input: &[u8], out: &mut [u8]) -> Step
     let header = c.receiver.header;
     let mut hold = c.receiver.hold;
     let p = Parts {
-        settings: settings,
-        transfer: transfer,
-        header: header,
+        settings,
+        transfer,
+        header,
         sum: c.receiver.sum,
         received: c.receiver.received,
     };
@@ -139,15 +137,15 @@ pub fn receive(c: Controller, input: &[u8], out: &mut [u8]) -> Step
     let answer = s.answer;
     Step {
         controller: Controller {
-            settings: settings,
-            transfer: transfer,
+            settings,
+            transfer,
             receiver: Receiver {
-                header: header,
+                header,
                 sum: s.parts.sum,
                 received: s.parts.received,
-                hold: hold,
+                hold,
             },
         },
-        answer: answer,
+        answer,
     }
 }

@@ -5,7 +5,7 @@ use mathlib.Core.Bool.{Bool, true, false, cond, not, _&&_, _||_}
 use mathlib.Core.List.{List, _++_}
 use native.Mathlib.Omega.{arith}
 use lib.Dec.{eqb}
-use borrow.Author.Tests.{eq-eqb, eqb-true, le-ltb, not-false}
+use borrow.Author.Tests.{eq-eqb, eqb-true, le-ltb}
 use lib.ListN.{length}
 use Rattle.packet.specs.Number.{Bytes}
 use Rattle.packet.specs.Packet.{typeOf, cmd1Of, cmd2Of, flagsOf, payloadLength, payload, rightSum, sum, sealed, packetOf, hostWrite, hostRead, whole}
@@ -32,6 +32,7 @@ use Rattle.command.specs.declared.judgement.Judgement.the-variants.{Refu
 use Rattle.command.specs.declared.value.Value.{Value}
 use Rattle.command.proofs.data.Laws.{split-length, split-join, length-join, join-split}
 use Rattle.command.proofs.table.Laws.{Fit, fit-length, found, known-code, size-small}
+use Rattle.command.proofs.transfer.Laws.{faultless}
 use Rattle.command.proofs.value.Laws.{command-from, values-from, value-from}
 
 -- a packet without flags that this layer makes, as it arrives
@@ -131,26 +132,6 @@ carried-write c mode d v h =
     go true e false b h = absurd (write-is h)
     go true e true true h = absurd (write-is h)
     go true e true false h = record { full = eqb-true (length d) (sizeOf c) e; made = cc }
-
--- a packet that is judged without a fault of the first group
-record Faultless (f : Found) (t : Transfer) (p : Arrived) : Type 0 where
-  command : wrongCommand f (p .type) ≡ false
-  sum : p .right ≡ true
-  order : wrongOrder (isOpen t) (openFor f t) (p .type) (p .flags) ≡ false
-
-faultless : (f : Found) (t : Transfer) (p : Arrived) → anyFault (faults f t p) ≡ false → Faultless f t p
-unfolding anyFault faults faultsOf
-faultless f t p h = record { command = parts .0; sum = not-false (p .right) (parts .1); order = parts .2 }
-  where
-    split : (a b c d : Bool) → (a || b || c || d) ≡ false → (a ≡ false) × (c ≡ false) × (d ≡ false)
-    split false false false false h = (refl, refl, refl)
-    split false false false true h = let z : _≡_ {A = ℕ} 0 1 = cc in absurd (omega arith)
-    split false false true d h = let z : _≡_ {A = ℕ} 0 1 = cc in absurd (omega arith)
-    split false true c d h = let z : _≡_ {A = ℕ} 0 1 = cc in absurd (omega arith)
-    split true b c d h = let z : _≡_ {A = ℕ} 0 1 = cc in absurd (omega arith)
-
-    parts : (wrongCommand f (p .type) ≡ false) × (not (p .right) ≡ false) × (wrongOrder (isOpen t) (openFor f t) (p .type) (p .flags) ≡ false)
-    parts = split (wrongCommand f (p .type)) (tooLong (isOpen t) (length (held t)) (p .flags) (p .size)) (not (p .right)) (wrongOrder (isOpen t) (openFor f t) (p .type) (p .flags)) h
 
 -- flags 00 are in order only with no transfer open
 whole-closed : (t : Transfer) (o : Bool) (type : ℕ) → wrongOrder (isOpen t) o type whole ≡ false → t ≡ Closed

@@ -10,7 +10,7 @@ use Rattle.packet.specs.Stream.{packets, rest}
 use Rattle.packet.proofs.Cases.{and-both}
 use Rattle.packet.proofs.WriterLaws.{size-written}
 use Rattle.packet.proofs.StreamLaws.{IsPacket, packets-nil, rest-nil, packets-cons, rest-cons}
-use Rattle.command.specs.Table.{table, cmd1For, cmd2For, sizeOf}
+use Rattle.command.specs.Table.{table, cmd1For, cmd2For, layout, sizeOf}
 use Rattle.command.specs.Settings.{valuesOf, factory, valuesAfter, store}
 use Rattle.command.specs.Rules.{blocked}
 use Rattle.command.specs.Value.{dataOf, valueFrom}
@@ -20,9 +20,9 @@ use Rattle.command.specs.Encoder.{writePacket, encoded, listOf, standard
 use Rattle.command.specs.declared.settings.Settings.{Settings}
 use Rattle.command.specs.declared.table.Command.{Command}
 use Rattle.command.proofs.table.Laws.{each, size-small}
-use Rattle.command.proofs.output.Laws.{data-length}
+use Rattle.command.proofs.data.Laws.{length-join}
 use Rattle.command.proofs.value.Laws.{command-from, data-from}
-use Rattle.command.proofs.rules.Laws.{Kept, Fits}
+use Rattle.command.proofs.rules.Laws.{Kept, Fits, length-values}
 use Rattle.command.proofs.encoder.Laws.{write-packet, next-write}
 
 -- the settings t after the values of s were written with each command of a list
@@ -45,6 +45,11 @@ pub record Plays (cs : List Command) (s t : Settings) : Type 0 where
 unfoldable pub sizes : List Command → ℕ
 sizes [] = 0
 sizes (c ∷ cs) = sizeOf c + 7 + sizes cs
+
+-- the data of a command have its size
+data-length : (c : Command) (s : Settings) → length (dataOf c s) ≡ sizeOf c
+unfolding dataOf sizeOf
+data-length c s = length-join (layout c) (valuesOf c s) (length-values s c)
 
 write-length : (c : Command) (s : Settings) → length (writePacket c (dataOf c s)) ≡ sizeOf c + 7
 unfolding writePacket

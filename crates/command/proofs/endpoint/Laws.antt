@@ -117,7 +117,7 @@ ready-carried c t k m z =
     let a = transferIn (c .transfer) (t .receiver .hold) in
     let q = arrivedIn (heldIn (c .transfer)) t in
     let j = judge (c .settings .mode) (transferIn (c .transfer) (t .receiver .hold)) (arrivedIn (heldIn (c .transfer)) t) in
-    let n : length (held a) ≡ heldIn (c .transfer) = held-length (c .transfer) (t .receiver .hold) (r .transfer) (m .hold) in
+    let n : length (held a) ≡ heldIn (c .transfer) = held-length (c .transfer) (r .transfer) (t .receiver .hold) (m .hold) in
     let b : Bounded (heldIn (c .transfer) + payloadLength (t .receiver .header)) j =
     subst (λ (x : ℕ). Bounded (x + payloadLength (t .receiver .header)) (judge (c .settings .mode) (transferIn (c .transfer) (t .receiver .hold)) (arrivedIn (heldIn (c .transfer)) t))) n (bounded (c .settings .mode) a q) in
     record {

@@ -1,28 +1,35 @@
 -- What is known of a judgement.
-use Prim.Native.Nat.{ℕ, _+_}
-use mathlib.Core.Path.{_≡_, refl, sym, subst}
-use mathlib.Core.Bool.{true, false, _||_}
+use Prim.Native.Nat.{ℕ, _+_, _≤_}
+use mathlib.Core.Path.{_≡_, refl, ap, sym, subst, _∙_}
+use mathlib.Core.Bool.{Bool, true, false, cond}
 use mathlib.Core.List.{List, _++_}
 use native.Mathlib.Omega.{arith}
 use lib.Dec.{eqb}
 use borrow.Author.Tests.{eqb-true}
-use lib.ListN.{length}
+use lib.ListN.{length, take}
 use Rattle.packet.specs.Number.{Bytes}
-use Rattle.packet.specs.Packet.{hostRead, whole, last, writeResponse}
-use Rattle.packet.proofs.Cases.{cond-cases}
+use Rattle.packet.specs.Packet.{typeOf, cmd1Of, cmd2Of, flagsOf, payloadLength, hostRead, writeResponse}
+use Rattle.packet.proofs.Cases.{bool-cases, cond-cases}
 use Rattle.command.specs.Data.{splitAll}
 use Rattle.command.specs.Table.{commandOf, layout, sizeOf}
 use Rattle.command.specs.Rules.{allowed, blocked}
-use Rattle.command.specs.Value.{commandIn, valuesIn, valueFrom}
+use Rattle.command.specs.Value.{commandIn, valuesIn, valueFrom, parsed}
 use Rattle.command.specs.Transfer.{Transfer, held}
-use Rattle.command.specs.Faults.{Arrived, faults, anyFault}
-use Rattle.command.specs.Judgement.{judgeWrite, judgeRead, judgeData, judge}
+use Rattle.command.specs.Faults.{Arrived, faultsOf, faults, anyFault, sizeFault, valueFault, modeFault}
+use Rattle.command.specs.Judgement.{judgeWrite, judgeRead, completes, judgeData, judge}
 use Rattle.command.specs.Response.{acknowledged, responseType}
 use Rattle.command.specs.declared.table.Command.{Command}
 use Rattle.command.specs.declared.table.Found.{Found}
 use Rattle.command.specs.declared.table.Found.the-variants.{Known, Unknown}
 use Rattle.command.specs.declared.judgement.Judgement.{Judgement}
 use Rattle.command.specs.declared.judgement.Judgement.the-variants.{Refuse, Hold, Write, Read}
+use Rattle.command.specs.Controller.{heldIn, transferIn, transferInRule, packetIn}
+use Rattle.command.specs.Inner.{isOpenIn, openForIn}
+use Rattle.command.specs.declared.faults.Codes.{Codes}
+use Rattle.command.specs.declared.transfer.TransferState.{TransferState}
+use Rattle.command.specs.declared.value.Parsed.{Parsed}
+use Rattle.command.specs.declared.value.Parsed.the-variants.{Values, WrongSize}
+use Rattle.command.proofs.transfer.Laws.{fits-hold, held-length, faults-are, joined-data}
 use Rattle.command.proofs.data.Laws.{split-length, fit-split}
 use Rattle.command.proofs.table.Laws.{Fit}
 use Rattle.command.proofs.value.Laws.{command-from, values-from}
@@ -70,7 +77,7 @@ module _
   unfolding judgeData
   of-data Unknown type flags = tt
   of-data (Known c) type flags =
-      cond-cases (OfWrite P) (eqb flags whole || eqb flags last)
+      cond-cases (OfWrite P) (completes flags)
       (λ _. cond-cases (OfWrite P) (eqb type hostRead) (λ _. of-read c (length d)) (λ _. of-write c))
       (λ _. tt)
 
@@ -101,6 +108,37 @@ pub fitting : (mode : ℕ) (t : Transfer) (p : Arrived) → Bytes (held t ++ p .
 unfolding sizeOf
 fitting mode t p b =
     of-judge (λ c v. Fit (layout c) v) mode t p (λ c l _ _. fit-split (layout c) (held t ++ p .body) b (omega arith))
+
+-- How the code's steps of judging make up the judgement.
+
+-- a write, by what reading its data finds
+abbrev pub judgeParsed : ℕ → Parsed → Judgement
+judgeParsed mode WrongSize = Refuse sizeFault
+judgeParsed mode (Values v) =
+    cond (allowed (commandIn v) (valuesIn v)) (cond (blocked (commandIn v) (valuesIn v) mode) (Refuse modeFault) (Write v)) (Refuse valueFault)
+
+pub write-parsed : (c : Command) (mode : ℕ) (d : List ℕ) → judgeWrite c mode d ≡ judgeParsed mode (parsed c d)
+unfolding judgeWrite parsed
+write-parsed c mode d =
+    bool-cases (eqb (length d) (sizeOf c))
+    (λ e. rw (e, command-from c (splitAll (layout c) d), values-from c (splitAll (layout c) d) (split-length (layout c) d)))
+    (λ e. rw e)
+
+-- a packet, by the controller's numbers
+module _ (mode : ℕ) (t : TransferState) (header : List ℕ) (right : Bool) (hold : List ℕ) (r : transferInRule t ≡ true) (n : length hold ≡ 1024) (f : Found) where
+  abbrev pub codesIn : Codes
+  codesIn = faultsOf f (isOpenIn t) (openForIn f t) (heldIn t) (typeOf header) (flagsOf header) (payloadLength header) right
+
+  pub judge-parts : f ≡ commandOf (cmd1Of header) (cmd2Of header)
+      → judge mode (transferIn t hold) (packetIn (heldIn t) header right hold)
+      ≡ cond (anyFault codesIn) (Refuse codesIn) (judgeData f mode (typeOf header) (flagsOf header) (take (heldIn t + payloadLength header) hold))
+  unfolding judge
+  judge-parts e = rw (← e, faults-are t r hold n f (packetIn (heldIn t) header right hold), joined-data t r hold header right)
+
+  pub judge-fits : anyFault codesIn ≡ false → heldIn t + payloadLength header ≤ 1024
+  judge-fits e =
+      let p = packetIn (heldIn t) header right hold in
+      omega (arith, held-length t r hold n, fits-hold f (transferIn t hold) p (ap anyFault (faults-are t r hold n f p) ∙ e))
 
 -- acknowledged means answered by a write response
 pub acknowledged-type : (j : Judgement) → eqb (responseType j) writeResponse ≡ acknowledged j

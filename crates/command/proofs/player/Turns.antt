@@ -1,5 +1,5 @@
 -- Playing bytes packet by packet: what a turn of the loop needs of the definitions.
-use Prim.Native.Nat.{ℕ, _+_, _-_, _<_, _≤_}
+use Prim.Native.Nat.{ℕ, _+_, _<_, _≤_}
 use mathlib.Core.Path.{_≡_, refl, ap, ap₂, sym, subst, _∙_}
 use mathlib.Core.Bool.{Bool, true, false, not, _&&_}
 use mathlib.Core.List.{List, [], _∷_, _++_}
@@ -164,7 +164,7 @@ going-done s b c good g =
     let r = rule-parts c (g .ready .rule) in
     let o : not (isOpen (play s b .transfer)) ≡ eqb (c .transfer .active) 0 =
     ap (λ (x : State). not (isOpen (x .transfer))) st
-    ∙ ap not (open-is (c .transfer) (c .receiver .hold) (r .transfer) (g .ready .made .hold))
+    ∙ ap not (open-is (c .transfer) (r .transfer) (c .receiver .hold))
     ∙ not-not (eqb (c .transfer .active) 0) in
     let z : length (rest (drop (length b) b)) ≡ 0 = ap (λ (x : List ℕ). length (rest x)) n ∙ ap length rest-nil in
     let e : isNil (rest b) ≡ eqb (c .receiver .received) 0 = nil-length (rest b) (c .receiver .received) (g .left ∙ omega arith) in

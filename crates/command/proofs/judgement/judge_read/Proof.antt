@@ -3,8 +3,6 @@ use borrow.Author.Tests.{eq-eqb, ne-eqb}
 use Rattle.command.specs.Judgement.{judgeRead}
 use Rattle.command.proofs.judgement.judge_read.Statement.{statement}
 use Rattle.command.proofs.judgement.judge_read.Tie as tie
-use Rattle.command.proofs.judgement.judge_read.Reads as reads
-use Rattle.command.proofs.judgement.judge_read.Lts as lts
 
 returns : tie.Need-returns
 unfolding judgeRead

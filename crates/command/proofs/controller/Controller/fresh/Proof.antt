@@ -4,8 +4,6 @@ use Rattle.packet.specs.Receiver.{zeros}
 use Rattle.command.specs.Settings.{factory}
 use Rattle.command.proofs.controller.Controller.fresh.Statement.{statement}
 use Rattle.command.proofs.controller.Controller.fresh.Tie as tie
-use Rattle.command.proofs.controller.Controller.fresh.Reads as reads
-use Rattle.command.proofs.controller.Controller.fresh.Lts as lts
 
 returns : tie.Need-returns
 unfolding factory zeros

@@ -2,8 +2,6 @@
 use borrow.Author.Tests.{eq-eqb, ne-eqb}
 use Rattle.command.proofs.transfer.TransferState.held.Statement.{statement}
 use Rattle.command.proofs.transfer.TransferState.held.Tie as tie
-use Rattle.command.proofs.transfer.TransferState.held.Reads as reads
-use Rattle.command.proofs.transfer.TransferState.held.Lts as lts
 
 returns : tie.Need-returns
 returns c = rw (eq-eqb (c .before .before .args .self .active) 0 (c .if1 .taken))
