@@ -14,13 +14,13 @@ use Rattle.packet.specs.Receiver.{with, missing, waiting as receiverWaiting, co
 use Rattle.packet.specs.Calls.{Call, servedOne, served, joined}
 use Rattle.packet.specs.declared.receiver.Receiver.{Receiver}
 use Rattle.packet.specs.declared.receiver.Received.{Received}
-use Rattle.packet.proofs.Cases.{bool-cases, cond-cases}
+use Rattle.packet.proofs.Cases.{bool-cases}
 use Rattle.packet.proofs.ReceiverLaws.{Made, made-with, made-between, with-nil, missing-least, after, cut, behind, waits, completes}
 use Rattle.packet.proofs.Calls.{Streaming, shifted, in-pieces}
 use Rattle.command.specs.Table.{commandOf}
 use Rattle.command.specs.Transfer.{Transfer, held}
-use Rattle.command.specs.Faults.{Arrived, faults, anyFault}
-use Rattle.command.specs.Judgement.{judgeData, judge}
+use Rattle.command.specs.Faults.{Arrived}
+use Rattle.command.specs.Judgement.{judge}
 use Rattle.command.specs.Carry.{settingsAfter}
 use Rattle.command.specs.Controller.{heldIn, transferIn, transferInRule, transferStateAfter, packetInRule, inRule}
 use Rattle.command.specs.Endpoint.{Outcome, Refuses, Waits, Answers, arrivedIn, judgedIn, carriedOut, responseIn, takenBy, After, waiting, answered, receiveCall}
@@ -31,7 +31,7 @@ use Rattle.command.specs.declared.controller.Controller.{Controller}
 use Rattle.command.proofs.controller.Laws.{Rule, rule-parts, rule-whole}
 use Rattle.command.proofs.table.Laws.{found}
 use Rattle.command.proofs.rules.Laws.{kept-by, in-rule-of}
-use Rattle.command.proofs.judgement.Laws.{sound}
+use Rattle.command.proofs.judgement.Laws.{judge-cases, sound}
 use Rattle.command.proofs.player.Laws.{kept-judgement}
 use Rattle.command.proofs.transfer.Laws.{fits-hold, held-length}
 
@@ -88,19 +88,10 @@ Bounded n (Hold c) = n ≤ 1024
 Bounded n (Write v) = Unit {0}
 Bounded n (Read c) = Unit {0}
 
-bounded-any : (n : ℕ) → n ≤ 1024 → (j : Judgement) → Bounded n j
-bounded-any n h (Refuse k) = tt
-bounded-any n h (Hold c) = h
-bounded-any n h (Write v) = tt
-bounded-any n h (Read c) = tt
-
 pub bounded : (mode : ℕ) (t : Transfer) (p : Arrived) → Bounded (length (held t) + p .size) (judge mode t p)
-unfolding judge
 bounded mode t p =
-    let f = commandOf (p .cmd1) (p .cmd2) in
-    cond-cases (Bounded (length (held t) + p .size)) (anyFault (faults f t p))
-    (λ _. tt)
-    (λ e. bounded-any (length (held t) + p .size) (fits-hold f t p e) (judgeData f mode (p .type) (p .flags) (held t ++ p .body)))
+    judge-cases (Bounded (length (held t) + p .size)) mode t p (λ _. tt)
+    (λ e. record { size = tt; value = tt; blocks = tt; hold = λ _. fits-hold (commandOf (p .cmd1) (p .cmd2)) t p e; read = λ _. tt; write = λ _ _ _ _ _. tt })
 
 transfer-kept : (t : TransferState) (n : ℕ) (j : Judgement) → transferInRule t ≡ true → Bounded n j → transferInRule (transferStateAfter t n j) ≡ true
 unfolding transferInRule
