@@ -11,12 +11,12 @@ use lib.ListN.{length, take}
 use lib.Seq.{sets}
 use Rattle.packet.specs.Packet.{payloadLength}
 use Rattle.packet.specs.Receiver.{with, missing, waiting as receiverWaiting, completed}
-use Rattle.packet.specs.Calls.{Call, servedOne, served, joined}
+use Rattle.packet.specs.Calls.{Call}
 use Rattle.packet.specs.declared.receiver.Receiver.{Receiver}
 use Rattle.packet.specs.declared.receiver.Received.{Received}
 use Rattle.packet.proofs.Cases.{bool-cases}
 use Rattle.packet.proofs.ReceiverLaws.{Made, made-with, made-between, with-nil, missing-least, after, cut, behind, waits, completes}
-use Rattle.packet.proofs.Calls.{Streaming, shifted, in-pieces}
+use Rattle.packet.proofs.Calls.{Streaming, shifted}
 use Rattle.command.specs.Table.{commandOf}
 use Rattle.command.specs.Transfer.{Transfer, held}
 use Rattle.command.specs.Faults.{Arrived}
@@ -58,21 +58,24 @@ pub record Ready (c : Controller) : Type 0 where
   pub rule : inRule c ≡ true
   pub made : Made (c .receiver)
 
--- the two ends of a call that is not refused
+-- a call that is not refused, by what the receiver took
+abbrev pub ends : Controller → List ℕ → Received → After
+ends c out t = cond (t .complete) (answered c t out) (waiting c t out)
+
 module _ (c : Controller) (b out : List ℕ) (k : Ready c) (l : 64 ≤ length out) where
-  pub not-refused : receiveCall c b out ≡ cond (takenBy c b .complete) (answered c (takenBy c b) out) (waiting c (takenBy c b) out)
+  pub call-is : {t : Received} → takenBy c b ≡ t → receiveCall c b out ≡ ends c out t
   unfolding receiveCall
-  not-refused = rw (le-ltb (length out) 64 l, k .rule)
+  call-is e = rw (le-ltb (length out) 64 l, k .rule, e)
 
   pub call-waits : length b < missing (c .receiver) b
       → receiveCall c b out ≡ waiting c (receiverWaiting (c .receiver) (heldIn (c .transfer)) b) out
   unfolding receiverWaiting
-  call-waits h = not-refused ∙ ap (λ (t : Received). cond (t .complete) (answered c t out) (waiting c t out)) (waits (c .receiver) (heldIn (c .transfer)) b h)
+  call-waits h = call-is (waits (c .receiver) (heldIn (c .transfer)) b h)
 
   pub call-answers : missing (c .receiver) b ≤ length b
       → receiveCall c b out ≡ answered c (completed (c .receiver) (heldIn (c .transfer)) b (missing (c .receiver) b)) out
   unfolding completed
-  call-answers h = not-refused ∙ ap (λ (t : Received). cond (t .complete) (answered c t out) (waiting c t out)) (completes (c .receiver) (heldIn (c .transfer)) b h)
+  call-answers h = call-is (completes (c .receiver) (heldIn (c .transfer)) b h)
 
   by-ends : {P : Type 0} → (length b < missing (c .receiver) b → P) → (missing (c .receiver) b ≤ length b → P) → P
   by-ends f g =
@@ -109,8 +112,7 @@ ready-carried c t k m z =
     let q = arrivedIn (heldIn (c .transfer)) t in
     let j = judge (c .settings .mode) (transferIn (c .transfer) (t .receiver .hold)) (arrivedIn (heldIn (c .transfer)) t) in
     let n : length (held a) ≡ heldIn (c .transfer) = held-length (c .transfer) (r .transfer) (t .receiver .hold) (m .hold) in
-    let b : Bounded (heldIn (c .transfer) + payloadLength (t .receiver .header)) j =
-    subst (λ (x : ℕ). Bounded (x + payloadLength (t .receiver .header)) (judge (c .settings .mode) (transferIn (c .transfer) (t .receiver .hold)) (arrivedIn (heldIn (c .transfer)) t))) n (bounded (c .settings .mode) a q) in
+    let b : Bounded (heldIn (c .transfer) + payloadLength (t .receiver .header)) j = rw n at (bounded (c .settings .mode) a q) in
     record {
       rule =
           rule-whole _
@@ -187,35 +189,22 @@ module _ (out : List ℕ) (l : 64 ≤ length out) where
   abbrev with-part : Controller → List ℕ → Controller
   with-part c a = record { settings = c .settings; transfer = c .transfer; receiver = with (c .receiver) (heldIn (c .transfer)) a }
 
-  ends-as : Controller → Received → After
-  ends-as c t = cond (t .complete) (answered c t out) (waiting c t out)
-
-  shown-by : (c d : Controller) (n : ℕ) (t : Received) → c .settings ≡ d .settings → c .transfer ≡ d .transfer → (b : Bool)
-      → shown (cond b (answered c (after n t) out) (waiting c (after n t) out)) ≡ shifted n (shown (cond b (answered d t out) (waiting d t out)))
+  shown-after : (c : Controller) (a : List ℕ) (n : ℕ) (t : Received) (b : Bool)
+      → shown (cond b (answered c (after n t) out) (waiting c (after n t) out)) ≡ shifted n (shown (cond b (answered (with-part c a) t out) (waiting (with-part c a) t out)))
   unfolding responseIn judgedIn
-  shown-by c d n t e f true = rw (e, f)
-  shown-by c d n t e f false = rw (e, f)
-
-  shown-after : (c d : Controller) (n : ℕ) (t : Received) → c .settings ≡ d .settings → c .transfer ≡ d .transfer
-      → shown (ends-as c (after n t)) ≡ shifted n (shown (ends-as d t))
-  unfolding ends-as
-  shown-after c d n t e f = shown-by c d n t e f (t .complete)
+  shown-after c a n t true = refl
+  shown-after c a n t false = refl
 
   cut-call : (c : Controller) (a b : List ℕ) → Ready c → length a < missing (c .receiver) a
       → serves out c (a ++ b) ≡ shifted (length a) (serves out (with-part c a) b)
-  unfolding ends-as
   cut-call c a b k h =
-      ap shown (not-refused c (a ++ b) out k l)
-      ∙ ap (λ (t : Received). shown (ends-as c t)) (cut (c .receiver) (heldIn (c .transfer)) a b (k .made .header) h)
-      ∙ shown-after c (with-part c a) (length a) (takenBy (with-part c a) b) refl refl
-      ∙ ap (λ (r : After). shifted (length a) (shown r)) (sym (not-refused (with-part c a) b out (ready-waiting c a k h) l))
+      ap shown (call-is c (a ++ b) out k l (cut (c .receiver) (heldIn (c .transfer)) a b (k .made .header) h))
+      ∙ shown-after c a (length a) (takenBy (with-part c a) b) (takenBy (with-part c a) b .complete)
+      ∙ ap (λ (r : After). shifted (length a) (shown r)) (sym (call-is (with-part c a) b out (ready-waiting c a k h) l refl))
 
   behind-call : (c : Controller) (a b : List ℕ) → Ready c → missing (c .receiver) a ≤ length a → serves out c (a ++ b) ≡ serves out c a
-  unfolding ends-as
   behind-call c a b k h =
-      ap shown (not-refused c (a ++ b) out k l)
-      ∙ ap (λ (t : Received). shown (ends-as c t)) (behind (c .receiver) (heldIn (c .transfer)) a b (k .made .header) h)
-      ∙ sym (ap shown (not-refused c a out k l))
+      ap shown (call-is c (a ++ b) out k l (behind (c .receiver) (heldIn (c .transfer)) a b (k .made .header) h) ∙ sym (call-is c a out k l refl))
 
   count-answers : (c : Controller) (a : List ℕ) → Ready c → missing (c .receiver) a ≤ length a → serves out c a .taken ≡ missing (c .receiver) a
   unfolding completed
@@ -237,7 +226,3 @@ module _ (out : List ℕ) (l : 64 ≤ length out) where
         least = λ c a e k g. omega (arith, missing-least (c .receiver) a, count-answers c a k (some-answers c a e k g));
         most = λ c a e k g. omega (arith, some-answers c a e k g, count-answers c a k (some-answers c a e k g));
       }
-
-  -- Demand 2, however the byte stream was cut: the responses in order and the controller at the end are those of the joined bytes.
-  pub cut-anywhere : (c : Controller) (bs : List (List ℕ)) → Ready c → served (serves out) c bs ≡ servedOne (serves out) c (joined bs)
-  cut-anywhere c bs k = in-pieces (serves out) Ready endpoint-streams c bs k
