@@ -29,9 +29,4 @@ returns-2 : tie.Need-returns-2
 returns-2 c = others (c .before .args .s) (c .before .args .j) (c .match .keys2)
 
 pub settings-after-spec : {M : Type 1} → statement M
-settings-after-spec =
-    tie.close (tie.spec
-    (λ c. search needs)
-    (λ c κs. search needs)
-    returns
-    returns-2)
+settings-after-spec = tie.close (tie.spec (λ c. search needs) (λ c κs. search needs) returns returns-2)

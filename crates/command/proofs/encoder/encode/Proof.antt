@@ -27,11 +27,4 @@ returns-3 c =
     (rw (e, f) (ap Writes (p .put .ensures .0)), rw (e, f) (p .put .ensures .1))
 
 pub encode-spec : {M : Type 1} → statement M
-encode-spec =
-    tie.close (tie.spec
-    returns
-    (λ c κs. search needs)
-    returns-2
-    (λ c κs. search needs)
-    (λ c. search needs)
-    returns-3)
+encode-spec = tie.close (tie.spec returns (λ c κs. search needs) returns-2 (λ c κs. search needs) (λ c. search needs) returns-3)

@@ -115,19 +115,5 @@ returns c =
 pub put-list-spec : {M : Type 1} → statement M
 put-list-spec =
     tie.close
-    (tie.spec
-    Inv-loop
-    μ-loop
-    loop-holds
-    (λ c κs. search needs)
-    (λ c κs. search needs)
-    sub-put
-    part-put-start
-    (λ c. search needs)
-    put-requires
-    add-at
-    (λ c. search needs)
-    (λ c. search needs)
-    loop-again
-    (λ c. search needs)
-    returns)
+    (tie.spec Inv-loop μ-loop loop-holds (λ c κs. search needs) (λ c κs. search needs) sub-put part-put-start (λ c. search needs)
+    put-requires add-at (λ c. search needs) (λ c. search needs) loop-again (λ c. search needs) returns)

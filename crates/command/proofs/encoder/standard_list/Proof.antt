@@ -27,11 +27,4 @@ returns-3 c =
     (rw (e, f) (ap Writes (p .put-list .ensures .0)), rw (e, f) (p .put-list .ensures .1))
 
 pub standard-list-spec : {M : Type 1} → statement M
-standard-list-spec =
-    tie.close (tie.spec
-    returns
-    (λ c κs. search needs)
-    returns-2
-    (λ c κs. search needs)
-    (λ c. search needs)
-    returns-3)
+standard-list-spec = tie.close (tie.spec returns (λ c κs. search needs) returns-2 (λ c κs. search needs) (λ c. search needs) returns-3)

@@ -36,11 +36,4 @@ returns-3 : tie.Need-returns-3
 returns-3 c = c .before .before .advance .ensures
 
 pub serve-spec : {M : Type 1} → statement M
-serve-spec =
-    tie.close (tie.spec
-    (λ c κs. search needs)
-    returns
-    returns-2
-    advance-requires
-    (λ c. search needs)
-    returns-3)
+serve-spec = tie.close (tie.spec (λ c κs. search needs) returns returns-2 advance-requires (λ c. search needs) returns-3)

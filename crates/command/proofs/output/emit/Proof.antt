@@ -39,4 +39,7 @@ returns c =
     )
 
 pub emit-spec : {M : Type 1} → statement M
-emit-spec = tie.close (tie.spec array-share-prefix-bytes slice-aggregate-write-packet (λ c κs. search needs) (λ c. search needs) (λ c. search needs) returns)
+emit-spec =
+    tie.close
+    (tie.spec array-share-prefix-bytes slice-aggregate-write-packet (λ c κs. search needs) (λ c. search needs) (λ c. search needs)
+    returns)

@@ -146,22 +146,6 @@ returns-2 c =
 pub play-spec : {M : Type 1} → statement M
 play-spec =
     tie.close
-    (tie.spec
-    Inv-loop
-    μ-loop
-    (λ c κs. search needs)
-    returns
-    loop-holds
-    (λ c. search needs)
-    (λ c. search needs)
-    (λ c. search needs)
-    slice-aggregate-serve
-    (λ c κs. search needs)
-    (λ c. search needs)
-    array-read-good
-    add-at
-    loop-less
-    loop-again
-    (λ c. omega arith)
-    loop-again-2
-    returns-2)
+    (tie.spec Inv-loop μ-loop (λ c κs. search needs) returns loop-holds (λ c. search needs) (λ c. search needs)
+    (λ c. search needs) slice-aggregate-serve (λ c κs. search needs) (λ c. search needs) array-read-good add-at loop-less
+    loop-again (λ c. omega arith) loop-again-2 returns-2)

@@ -10,10 +10,4 @@ returns c =
     rw (d .before .response-type .ensures, d .response-data .ensures .bytes) at (e .emit .ensures)
 
 pub respond-spec : {M : Type 1} → statement M
-respond-spec =
-    tie.close (tie.spec
-    (λ c κs. search needs)
-    (λ c κs. search needs)
-    (λ c κs. search needs)
-    (λ c. search needs)
-    returns)
+respond-spec = tie.close (tie.spec (λ c κs. search needs) (λ c κs. search needs) (λ c κs. search needs) (λ c. search needs) returns)

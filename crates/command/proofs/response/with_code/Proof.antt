@@ -20,9 +20,4 @@ returns-2 : tie.Need-returns-2
 returns-2 c = rw (c .if1 .left, append-nil (contents (c .before .args .d))) (refl, omega arith)
 
 pub with-code-spec : {M : Type 1} → statement M
-with-code-spec =
-    tie.close (tie.spec
-    (λ c. search needs)
-    (λ c. search needs)
-    returns
-    returns-2)
+with-code-spec = tie.close (tie.spec (λ c. search needs) (λ c. search needs) returns returns-2)

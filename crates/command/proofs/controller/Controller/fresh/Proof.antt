@@ -5,9 +5,6 @@ use Rattle.command.specs.Settings.{factory}
 use Rattle.command.proofs.controller.Controller.fresh.Statement.{statement}
 use Rattle.command.proofs.controller.Controller.fresh.Tie as tie
 
-returns : tie.Need-returns
-unfolding factory zeros
-returns c = refl
-
 pub fresh-spec : {M : Type 1} → statement M
-fresh-spec = tie.close (tie.spec returns)
+unfolding factory zeros
+fresh-spec = tie.close (tie.spec (λ c. refl))
