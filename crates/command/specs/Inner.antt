@@ -1,6 +1,6 @@
 -- An open transfer by the controller's numbers: its held data are the first bytes of the hold.
 use Prim.Native.Nat.{ℕ, _≤_}
-use mathlib.Core.Bool.{Bool, false, not, _&&_}
+use mathlib.Core.Bool.{Bool, true, false, not, _&&_}
 use mathlib.Core.List.{List}
 use lib.Dec.{eqb}
 use lib.ListN.{take}
@@ -12,8 +12,11 @@ use Rattle.command.specs.Controller.{transferInRule, packetInRule}
 use Rattle.command.specs.Rules.{settingsInRule}
 use Rattle.command.specs.declared.controller.Controller.{Controller}
 use Rattle.command.specs.declared.controller.Parts.{Parts}
+use Rattle.command.specs.Endpoint.{After, answered}
 use mathlib.Core.Path.{_≡_}
 use Rattle.command.specs.declared.data.Data.{Data}
+
+-- The open transfer by the controller's numbers: those of specs.Transfer by `open-is` and `open-for-is` of transfer.Laws.
 
 abbrev pub isOpenIn : TransferState → Bool
 isOpenIn t = not (eqb (t .active) 0)
@@ -23,16 +26,7 @@ abbrev pub openForIn : Found → TransferState → Bool
 openForIn Unknown t = false
 openForIn (Known c) t = isOpenIn t && hasCode (t .cmd1) (t .cmd2) c
 
--- the parts beside the hold; and a controller of parts and a hold
-abbrev pub partsOf : Controller → Parts
-partsOf c =
-    record {
-      settings = c .settings;
-      transfer = c .transfer;
-      header = c .receiver .header;
-      sum = c .receiver .sum;
-      received = c .receiver .received;
-    }
+-- A controller whose hold is lent apart from its other parts.
 
 abbrev pub controllerOf : Parts → List ℕ → Controller
 controllerOf p hold =
@@ -42,11 +36,16 @@ controllerOf p hold =
       receiver = record { header = p .header; sum = p .sum; received = p .received; hold = hold };
     }
 
--- what refusal 3 lets pass, by the parts
+-- it is in rule: `parts-in-rule` of controller.Laws
 abbrev pub partsInRule : Parts → Bool
 partsInRule p = settingsInRule (p .settings) && transferInRule (p .transfer) && packetInRule (p .header) (p .received)
 
--- those that count
+-- what a call answers and leaves once its packet is complete in the receiver, the checksum right or not and n bytes taken: `answers` of `advance`
+abbrev pub settled : Controller → Bool → ℕ → List ℕ → After
+settled c right n out = answered c (record { taken = n; complete = true; right = right; receiver = c .receiver }) out
+
+-- The data that count.
+
 abbrev pub contents : Data → List ℕ
 contents d = take (d .length) (d .bytes)
 

@@ -1,4 +1,4 @@
--- How a complete packet is judged, what a judgement changes, and the response that it draws.
+-- How a complete packet is judged.
 use Prim.Native.Nat.{ℕ}
 use mathlib.Core.Bool.{Bool, cond, _||_}
 use mathlib.Core.List.{List, _++_}
@@ -34,7 +34,7 @@ judgeRead c n = cond (eqb n 0) (Read c) (Refuse sizeFault)
 abbrev pub completes : ℕ → Bool
 completes f = eqb f whole || eqb f last
 
--- with none of the first group, d being the joined data; only for flags 00 or 03 are they complete (an unknown command has drawn 02)
+-- only with none of the first group, and only for flags 00 or 03, d being the joined data (an unknown command has drawn 02)
 unfoldable pub judgeData : Found → ℕ → ℕ → ℕ → List ℕ → Judgement
 judgeData Unknown mode type flags d = Refuse sizeFault
 judgeData (Known c) mode type flags d =

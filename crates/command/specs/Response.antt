@@ -1,4 +1,4 @@
--- How a complete packet is judged, what a judgement changes, and the response that it draws.
+-- The response that a judgement draws.
 use Prim.Native.Nat.{ℕ}
 use mathlib.Core.Bool.{Bool, true, false}
 use mathlib.Core.List.{List, []}

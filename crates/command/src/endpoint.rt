@@ -15,8 +15,8 @@ ghost use mathlib.Core.Bool.{true};
 ghost use Prim.Native.Nat.{_≤_};
 ghost use lib.ListN.{length};
 ghost use Rattle.command.specs.Controller.{transferInRule};
-ghost use Rattle.command.specs.Inner.{controllerOf, partsInRule};
-ghost use Rattle.command.specs.Endpoint.{outcomeOf, settled, receiveCall};
+ghost use Rattle.command.specs.Inner.{controllerOf, partsInRule, settled};
+ghost use Rattle.command.specs.Endpoint.{outcomeOf, receiveCall};
 
 pub enum Answer {
     // The input ended before a packet did; all of it was taken.

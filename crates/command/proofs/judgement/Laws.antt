@@ -133,16 +133,16 @@ write-parsed c mode d =
 
 -- a packet, by the controller's numbers
 module _ (mode : ℕ) (t : TransferState) (header : List ℕ) (right : Bool) (hold : List ℕ) (r : transferInRule t ≡ true) (n : length hold ≡ 1024) (f : Found) where
-  abbrev pub codesIn : Codes
-  codesIn = faultsOf f (isOpenIn t) (openForIn f t) (heldIn t) (typeOf header) (flagsOf header) (payloadLength header) right
+  abbrev pub codesBy : Codes
+  codesBy = faultsOf f (isOpenIn t) (openForIn f t) (heldIn t) (typeOf header) (flagsOf header) (payloadLength header) right
 
   pub judge-parts : f ≡ commandOf (cmd1Of header) (cmd2Of header)
       → judge mode (transferIn t hold) (packetIn (heldIn t) header right hold)
-      ≡ cond (anyFault codesIn) (Refuse codesIn) (judgeData f mode (typeOf header) (flagsOf header) (take (heldIn t + payloadLength header) hold))
+      ≡ cond (anyFault codesBy) (Refuse codesBy) (judgeData f mode (typeOf header) (flagsOf header) (take (heldIn t + payloadLength header) hold))
   unfolding judge
   judge-parts e = rw (← e, faults-are t r hold n f (packetIn (heldIn t) header right hold), joined-data t r hold header right)
 
-  pub judge-fits : anyFault codesIn ≡ false → heldIn t + payloadLength header ≤ 1024
+  pub judge-fits : anyFault codesBy ≡ false → heldIn t + payloadLength header ≤ 1024
   judge-fits e =
       let p = packetIn (heldIn t) header right hold in
       omega (arith, held-length t r hold n, fits-hold f (transferIn t hold) p (ap anyFault (faults-are t r hold n f p) ∙ e))

@@ -10,8 +10,8 @@ use Rattle.packet.specs.Receiver.{receiving}
 use Rattle.packet.specs.declared.receiver.Received.{Received}
 use Rattle.packet.proofs.ReceiverLent.{together, taken-is}
 use Rattle.command.specs.Controller.{heldIn, inRule}
-use Rattle.command.specs.Inner.{controllerOf}
-use Rattle.command.specs.Endpoint.{judgedIn, responseIn, After, waiting, settled, receiveCall}
+use Rattle.command.specs.Inner.{controllerOf, settled}
+use Rattle.command.specs.Endpoint.{judgedIn, responseIn, After, waiting, receiveCall}
 use Rattle.command.specs.declared.controller.Controller.{Controller}
 use Rattle.command.proofs.controller.Laws.{rule-parts}
 use borrow.Author.Needs.{needs}
