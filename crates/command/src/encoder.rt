@@ -40,6 +40,21 @@ fn put(out: &mut [u8], v: Value) -> usize
     emit(out, packet::HOST_WRITE, code.cmd1, code.cmd2, data_of(v))
 }
 
+// The writes one after the other.
+fn put_list(out: &mut [u8], s: Settings) -> usize
+    requires { ⌜ 128 ≤ length (now out) ⌝ }
+    ensures { λ r. ⌜ (r ≡ length (standardList s)) × (now (out .exit) ≡ written (standardList s) (now (out .entry))) ⌝ }
+{
+    let mut at: usize = 0;
+    let mut k: usize = 0;
+    while k < COMMANDS {
+        let v = crate::settings::value_of(s, Command::at(k));
+        at += put(&mut out[at..], v);
+        k += 1;
+    }
+    at
+}
+
 // One whole write packet. Run 1 is allowed here.
 pub fn encode(v: Value, out: &mut [u8]) -> Encoded
     ensures { λ r. ⌜ (outcomeOf r ≡ encodeCall v (now (out .entry)) .answer) × (now (out .exit) ≡ encodeCall v (now (out .entry)) .output) ⌝ }
@@ -65,19 +80,4 @@ pub fn standard_list(s: Settings, out: &mut [u8]) -> Encoded
         return Encoded::OutOfRule;
     }
     Encoded::Length(put_list(out, s))
-}
-
-// The writes one after the other.
-fn put_list(out: &mut [u8], s: Settings) -> usize
-    requires { ⌜ 128 ≤ length (now out) ⌝ }
-    ensures { λ r. ⌜ (r ≡ length (standardList s)) × (now (out .exit) ≡ written (standardList s) (now (out .entry))) ⌝ }
-{
-    let mut at: usize = 0;
-    let mut k: usize = 0;
-    while k < COMMANDS {
-        let v = crate::settings::value_of(s, Command::at(k));
-        at += put(&mut out[at..], v);
-        k += 1;
-    }
-    at
 }

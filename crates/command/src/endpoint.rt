@@ -1,4 +1,5 @@
-// What a receive call answers.
+// The receive call: it takes bytes until the input ends or one packet is complete, and answers that
+// packet.
 use crate::carry::settings_after;
 use crate::carry::transfer_after;
 use crate::controller::Controller;
@@ -18,6 +19,7 @@ ghost use Rattle.command.specs.Controller.{transferInRule};
 ghost use Rattle.command.specs.Inner.{controllerOf, partsInRule, settled};
 ghost use Rattle.command.specs.Endpoint.{outcomeOf, receiveCall};
 
+// What a receive call answers.
 pub enum Answer {
     // The input ended before a packet did; all of it was taken.
     Waiting(usize),
@@ -113,7 +115,7 @@ pub struct Step {
     pub answer: Answer,
 }
 
-// Takes bytes until the input ends or one packet is complete.
+// The call on a controller by value.
 pub fn receive(c: Controller, input: &[u8], out: &mut [u8]) -> Step
     ensures { λ r. ⌜ (outcomeOf (r .answer) ≡ receiveCall c (now (input .entry)) (now (out .entry)) .answer)
         × (r .controller ≡ receiveCall c (now (input .entry)) (now (out .entry)) .controller)

@@ -1,5 +1,5 @@
-// The error codes and the judgement of a complete packet. The judgement is data: finding it and carrying
-// it out are other steps.
+// How a complete packet is judged. The judgement is data: finding it and carrying it out are other
+// steps.
 use crate::faults::Codes;
 use crate::faults::faults;
 use crate::rules::allowed;
