@@ -8,7 +8,7 @@ use lib.Dec.{eqb}
 use borrow.Author.Tests.{eq-eqb, eqb-true, le-ltb}
 use lib.ListN.{length}
 use Rattle.packet.specs.Number.{Bytes}
-use Rattle.packet.specs.Packet.{typeOf, cmd1Of, cmd2Of, flagsOf, payloadLength, payload, rightSum, sum, sealed, packetOf, hostWrite, hostRead, whole}
+use Rattle.packet.specs.Packet.{typeOf, cmd1Of, cmd2Of, flagsOf, payloadLength, payload, sum, sealed, packetOf, hostWrite, hostRead, whole}
 use Rattle.packet.proofs.NumberLaws.{bytes-take, bytes-drop}
 use Rattle.packet.proofs.StreamLaws.{IsPacket}
 use Rattle.packet.proofs.WriterLaws.{length-written, size-written, packet-written, payload-written, sum-written, packet-remade}
@@ -39,21 +39,10 @@ abbrev pub plain : ℕ → Command → List ℕ → Arrived
 plain type c d =
     record { type = type; cmd1 = cmd1For c; cmd2 = cmd2For c; flags = whole; size = length d; right = true; body = d }
 
-arrived-eq : (type cmd1 cmd2 flags : ℕ) {n n′ : ℕ} {r r′ : Bool} {d d′ : List ℕ} → n ≡ n′ → r ≡ r′ → d ≡ d′
-    → _≡_ {A = Arrived}
-    (record { type = type; cmd1 = cmd1; cmd2 = cmd2; flags = flags; size = n; right = r; body = d })
-    (record { type = type; cmd1 = cmd1; cmd2 = cmd2; flags = flags; size = n′; right = r′; body = d′ })
-arrived-eq type cmd1 cmd2 flags e f g = cc
-
 pub arrived-plain : (type : ℕ) (c : Command) (d : List ℕ) → length d ≤ 65535 → arrived (packetOf type (cmd1For c) (cmd2For c) whole d) ≡ plain type c d
 arrived-plain type c d h =
-    fields (length-written type (cmd1For c) (cmd2For c) whole d h) (sum-written type (cmd1For c) (cmd2For c) whole d h) (payload-written type (cmd1For c) (cmd2For c) whole d h)
-  where
-    fields : payloadLength (packetOf type (cmd1For c) (cmd2For c) whole d) ≡ length d
-        → rightSum (packetOf type (cmd1For c) (cmd2For c) whole d) ≡ true
-        → payload (packetOf type (cmd1For c) (cmd2For c) whole d) ≡ d
-        → arrived (packetOf type (cmd1For c) (cmd2For c) whole d) ≡ plain type c d
-    fields = unfold packetOf sealed in λ e f g. arrived-eq type (cmd1For c) (cmd2For c) whole e f g
+    rw (length-written type (cmd1For c) (cmd2For c) whole d h, sum-written type (cmd1For c) (cmd2For c) whole d h, payload-written type (cmd1For c) (cmd2For c) whole d h)
+    (unfold packetOf sealed in refl)
 
 -- at a packet boundary with no transfer open, a whole write has no fault of the first group
 no-faults : (c : Command) (d : List ℕ) → length d ≤ 1024 → anyFault (faults (Known c) Closed (plain hostWrite c d)) ≡ false

@@ -1,4 +1,4 @@
--- `codes_data` meets its contract: a byte behind the others for each code that holds.
+-- `codes_data` meets its contract: a byte after the others for each code that holds.
 use Prim.Native.Nat.{ℕ}
 use mathlib.Core.Path.{_≡_, refl}
 use mathlib.Core.Bool.{Bool, true, false}
@@ -15,7 +15,7 @@ unfolding listIf
 list-append true n l m = refl
 list-append false n l m = refl
 
--- the codes, one behind the other
+-- the codes, one after the other
 listed : (k : Codes) {a b c d e f g : List ℕ}
     → a ≡ listIf (k .command) 0x02 []
     → b ≡ a ++ listIf (k .value) 0x03 []
