@@ -13,18 +13,17 @@ use Rattle.command.specs.Rules.{allowed, blocked}
 use Rattle.command.specs.Settings.{valuesAfter, store}
 use Rattle.command.specs.Value.{dataOf, commandIn, valuesIn}
 use Rattle.command.specs.Transfer.{Closed}
-use Rattle.command.specs.Faults.{Arrived, arrived, wrongCommand, tooLong, wrongOrder, faultsOf, faults, anyFault}
-use Rattle.command.specs.Judgement.{judgeRead, judgeData, judge}
+use Rattle.command.specs.Faults.{Arrived, arrived, wrongCommand}
+use Rattle.command.specs.Judgement.{judgeRead, judgeData}
 use Rattle.command.specs.Response.{response}
 use Rattle.command.specs.Player.{from, judged, next, State, responses, after}
 use Rattle.command.specs.Encoder.{writePacket, encoded}
 use Rattle.command.specs.declared.settings.Settings.{Settings}
 use Rattle.command.specs.declared.table.Command.{Command}
-use Rattle.command.specs.declared.table.Found.the-variants.{Known}
 use Rattle.command.specs.declared.judgement.Judgement.the-variants.{Read, Write}
-use Rattle.command.proofs.table.Laws.{Fit, fit-length, each, found}
+use Rattle.command.proofs.table.Laws.{Fit, fit-length, each}
 use Rattle.command.proofs.rules.Laws.{values-store}
-use Rattle.command.proofs.encoder.Laws.{plain, arrived-plain, next-write, encoder-judged}
+use Rattle.command.proofs.encoder.Laws.{arrived-plain, judge-plain, next-write, encoder-judged}
 use mathlib.Core.Option.{some}
 use lib.Seq.{take-at, drop-at}
 use Rattle.packet.specs.Stream.{hasPacket, packets, rest}
@@ -140,24 +139,13 @@ encoder-received out l c k q t v f a b =
 abbrev pub readPacket : Command → List ℕ
 readPacket c = packetOf hostRead (cmd1For c) (cmd2For c) whole []
 
-read-faults : (c : Command) → readable c ≡ true → anyFault (faults (Known c) Closed (plain hostRead c [])) ≡ false
-unfolding anyFault faults faultsOf wrongCommand tooLong wrongOrder
-read-faults c r = rw r
-
-judge-plain-read : (mode : ℕ) (c : Command) → readable c ≡ true → judge mode Closed (plain hostRead c []) ≡ Read c
-unfolding judge judgeData judgeRead
-judge-plain-read mode c r = rw (found c, read-faults c r)
-
-judge-read : (mode : ℕ) (c : Command) → readable c ≡ true → judge mode Closed (arrived (readPacket c)) ≡ Read c
-judge-read mode c r = rw (arrived-plain hostRead c [] (omega arith)) (judge-plain-read mode c r)
-
 -- every readable command is answered with its values, in the layout of its write
 pub read-answers : (s : Settings) (c : Command) → readable c ≡ true
     → response s (arrived (readPacket c)) (judged (from s) (readPacket c)) ≡ packetOf readResponse (cmd1For c) (cmd2For c) whole (dataOf c s)
-unfolding response judged
+unfolding response judged wrongCommand judgeData judgeRead
 read-answers s c r =
-    ap (λ (q : Arrived). response s q (judged (from s) (readPacket c))) (arrived-plain hostRead c [] (omega arith))
-    ∙ ap (response s (plain hostRead c [])) (judge-read (s .mode) c r)
+    ap (response s (arrived (readPacket c))) (judge-plain hostRead c [] (rw r) (omega arith) (s .mode))
+    ∙ ap (λ (q : Arrived). response s q (Read c)) (arrived-plain hostRead c [] (omega arith))
 
 same-refl : (c : Command) → same c c ≡ true
 same-refl = each (λ c. same c c ≡ true) (refl, refl, refl, refl, refl, refl, refl, refl, refl)

@@ -1,7 +1,7 @@
 -- Write packets: the encoder's packet is judged as its write, an accepted whole write encodes to its own bytes, and lists of writes.
-use Prim.Native.Nat.{ℕ, _+_, _≤_}
+use Prim.Native.Nat.{ℕ, _≤_}
 use mathlib.Core.Path.{_≡_, refl, ap, sym, subst, _∙_}
-use mathlib.Core.Bool.{Bool, true, false, cond, not, _&&_, _||_}
+use mathlib.Core.Bool.{Bool, true, false, cond, not, _&&_, _||_, and-false}
 use mathlib.Core.List.{List, _++_}
 use native.Mathlib.Omega.{arith}
 use lib.Dec.{eqb}
@@ -11,7 +11,7 @@ use Rattle.packet.specs.Number.{Bytes}
 use Rattle.packet.specs.Packet.{typeOf, cmd1Of, cmd2Of, flagsOf, payloadLength, payload, sum, sealed, packetOf, hostWrite, hostRead, whole}
 use Rattle.packet.proofs.NumberLaws.{bytes-take, bytes-drop}
 use Rattle.packet.proofs.StreamLaws.{IsPacket}
-use Rattle.packet.proofs.WriterLaws.{length-written, size-written, packet-written, payload-written, sum-written, packet-remade}
+use Rattle.packet.proofs.WriterLaws.{length-written, packet-written, payload-written, sum-written, packet-remade}
 use Rattle.command.specs.Data.{joinAll}
 use Rattle.command.specs.Table.{cmd1For, cmd2For, commandOf, isKnown, canRead, layout, sizeOf}
 use Rattle.command.specs.Rules.{allowed, blocked}
@@ -44,19 +44,18 @@ arrived-plain type c d h =
     rw (length-written type (cmd1For c) (cmd2For c) whole d h, sum-written type (cmd1For c) (cmd2For c) whole d h, payload-written type (cmd1For c) (cmd2For c) whole d h)
     (unfold packetOf sealed in refl)
 
--- at a packet boundary with no transfer open, a whole write has no fault of the first group
-no-faults : (c : Command) (d : List ℕ) → length d ≤ 1024 → anyFault (faults (Known c) Closed (plain hostWrite c d)) ≡ false
-unfolding anyFault faults faultsOf wrongCommand tooLong wrongOrder
-no-faults c d h = rw (le-ltb 1024 (length d) h)
+-- At a packet boundary with no transfer open it has no fault of the first group, and is judged by its command and data alone.
+module _ (type : ℕ) (c : Command) (d : List ℕ) (w : wrongCommand (Known c) type ≡ false) (h : length d ≤ 1024) where
+  no-faults : anyFault (faults (Known c) Closed (plain type c d)) ≡ false
+  unfolding anyFault faults faultsOf tooLong wrongOrder
+  no-faults = rw (w, le-ltb 1024 (length d) h, and-false (not (eqb type hostWrite)))
 
-pub judge-plain : (mode : ℕ) (c : Command) (d : List ℕ) → length d ≤ 1024 → judge mode Closed (plain hostWrite c d) ≡ judgeWrite c mode d
-unfolding judge judgeData
-judge-plain mode c d h = rw (found c, no-faults c d h)
+  alone : (mode : ℕ) → judge mode Closed (plain type c d) ≡ judgeData (Known c) mode type whole d
+  unfolding judge
+  alone mode = rw (found c, no-faults)
 
--- and is judged by its command and data alone
-pub judge-written : (mode : ℕ) (c : Command) (d : List ℕ) → length d ≤ 1024 → judge mode Closed (arrived (writePacket c d)) ≡ judgeWrite c mode d
-unfolding writePacket
-judge-written mode c d h = rw (arrived-plain hostWrite c d (omega arith)) (judge-plain mode c d h)
+  pub judge-plain : (mode : ℕ) → judge mode Closed (arrived (packetOf type (cmd1For c) (cmd2For c) whole d)) ≡ judgeData (Known c) mode type whole d
+  judge-plain mode = rw (arrived-plain type c d (omega arith)) (alone mode)
 
 -- Values that fit and are allowed.
 module _ (c : Command) (v : List ℕ) (f : Fit (layout c) v) (a : allowed c v ≡ true) where
@@ -64,21 +63,16 @@ module _ (c : Command) (v : List ℕ) (f : Fit (layout c) v) (a : allowed c v �
   unfolding sizeOf
   length-data = length-join (layout c) v (fit-length (layout c) v f)
 
-  pub judge-values : (mode : ℕ) → judgeWrite c mode (joinAll (layout c) v) ≡ cond (blocked c v mode) (Refuse modeFault) (Write (valueFrom c v))
-  unfolding judgeWrite
-  judge-values mode = rw (eq-eqb (length (joinAll (layout c) v)) (sizeOf c) length-data, split-join (layout c) v f, a)
-
   -- the packet of a legal write is judged as that write; only run 1 outside mode 4 draws 07 instead
   pub judged-write : (mode : ℕ) → judge mode Closed (arrived (writePacket c (joinAll (layout c) v))) ≡ cond (blocked c v mode) (Refuse modeFault) (Write (valueFrom c v))
-  judged-write mode = judge-written mode c (joinAll (layout c) v) (omega (arith, length-data, size-small c)) ∙ judge-values mode
+  unfolding writePacket wrongCommand judgeData judgeWrite
+  judged-write mode =
+      judge-plain hostWrite c (joinAll (layout c) v) refl (omega (arith, length-data, size-small c)) mode
+      ∙ rw (eq-eqb (length (joinAll (layout c) v)) (sizeOf c) length-data, split-join (layout c) v f, a)
 
   pub write-packet : IsPacket (writePacket c (joinAll (layout c) v))
   unfolding writePacket
   write-packet = packet-written hostWrite (cmd1For c) (cmd2For c) whole (joinAll (layout c) v) (omega (arith, length-data, size-small c))
-
-  pub write-size : length (writePacket c (joinAll (layout c) v)) ≡ sizeOf c + 7
-  unfolding writePacket
-  write-size = size-written hostWrite (cmd1For c) (cmd2For c) whole (joinAll (layout c) v) (omega (arith, length-data, size-small c)) ∙ ap (λ (n : ℕ). n + 7) length-data
 
   -- a write that is not blocked is carried out
   pub next-write : (s : Settings) → blocked c v (s .mode) ≡ false
