@@ -43,7 +43,7 @@ pub(crate) struct Served {
 }
 
 // A complete packet is judged, the judgement carried out and the response written.
-fn settle(p: Parts, right: bool, taken: usize, hold: &[u8], out: &mut [u8]) -> Served
+fn settle(mut p: Parts, right: bool, taken: usize, hold: &[u8], out: &mut [u8]) -> Served
     requires { ⌜ (transferInRule (p .transfer) ≡ true) × (length (now hold) ≡ 1024) × (64 ≤ length (now out)) ⌝ }
     ensures { λ r. ⌜ (outcomeOf (r .answer) ≡ settled (controllerOf p (now (hold .entry))) right taken (now (out .entry)) .answer)
         × (controllerOf (r .parts) (now (hold .entry)) ≡ settled (controllerOf p (now (hold .entry))) right taken (now (out .entry)) .controller)
@@ -53,14 +53,10 @@ fn settle(p: Parts, right: bool, taken: usize, hold: &[u8], out: &mut [u8]) -> S
     let j = judge(p.settings.mode, p.transfer, header, right, hold);
     let length = respond(out, p.settings, header[1], header[2], j);
     let n = p.transfer.held() + packet::word(header[4], header[5]);
+    p.settings = settings_after(p.settings, j);
+    p.transfer = transfer_after(p.transfer, n, j);
     Served {
-        parts: Parts {
-            settings: settings_after(p.settings, j),
-            transfer: transfer_after(p.transfer, n, j),
-            header,
-            sum: p.sum,
-            received: p.received,
-        },
+        parts: p,
         answer: Answer::Answered { taken, length },
     }
 }
