@@ -4,21 +4,21 @@ use mathlib.Core.Path.{_≡_, refl, subst, _∙_}
 use mathlib.Core.Bool.{Bool, true, false, _&&_}
 use mathlib.Core.List.{List, [], _∷_}
 use native.Mathlib.Omega.{arith}
-use borrow.Author.Tests.{lt-ltb, le-ltb}
 use lib.ListN.{length}
+use borrow.Author.Tests.{lt-ltb, le-ltb}
 use Rattle.packet.specs.Packet.{packetOf, cmd1Of, cmd2Of, error, whole}
 use Rattle.packet.proofs.Cases.{and-left, and-right}
 use Rattle.command.specs.Table.{commandOf}
-use Rattle.command.specs.declared.settings.Settings.{Settings}
-use Rattle.command.specs.declared.table.Found.{Found}
 use Rattle.command.specs.Transfer.{Transfer, Closed}
 use Rattle.command.specs.Faults.{Arrived, arrived, faults, anyFault, sizeFault, valueFault, modeFault, listIf, codesOf}
 use Rattle.command.specs.Judgement.{judge}
 use Rattle.command.specs.Carry.{settingsAfter}
 use Rattle.command.specs.Response.{response}
-use Rattle.command.specs.Player.{State, judged, next, judgements, after}
 use Rattle.command.specs.Controller.{inRule}
 use Rattle.command.specs.Endpoint.{refused, receiveCall}
+use Rattle.command.specs.Player.{State, judged, next, judgements, after}
+use Rattle.command.specs.declared.table.Found.{Found}
+use Rattle.command.specs.declared.settings.Settings.{Settings}
 use Rattle.command.specs.declared.faults.Codes.{Codes}
 use Rattle.command.specs.declared.judgement.Judgement.{Judgement}
 use Rattle.command.specs.declared.judgement.Judgement.the-variants.{Refuse, Hold, Write, Read}

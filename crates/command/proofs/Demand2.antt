@@ -4,42 +4,42 @@ use Prim.Native.Nat.{ℕ, suc, _+_, _≤_}
 use mathlib.Core.Path.{_≡_, refl, ap, _∙_, sym, subst}
 use mathlib.Core.Bool.{true, false}
 use mathlib.Core.List.{List, [], _∷_, _++_, append-nil}
+use mathlib.Core.Option.{some}
 use native.Mathlib.Omega.{arith}
 use lib.ListN.{length, drop, length-append}
+use lib.Seq.{take-at, drop-at}
+use Rattle.packet.specs.Calls.{Served, andThen, callsOn, servedOne, Call, served, joined}
 use Rattle.packet.specs.Packet.{packetOf, hostRead, readResponse, whole}
-use Rattle.command.specs.Data.{joinAll}
+use Rattle.packet.specs.Stream.{hasPacket, packets, rest}
+use Rattle.packet.specs.Receiver.{with, waiting as receiverWaiting}
+use Rattle.packet.specs.Writer.{written}
+use Rattle.packet.specs.declared.receiver.Receiver.{Receiver}
+use Rattle.packet.proofs.Calls.{same-calls, in-pieces}
+use Rattle.packet.proofs.StreamLaws.{IsPacket, packets-cons, rest-cons, packets-none, rest-none, packet-induction, packets-nil}
+use Rattle.packet.proofs.ReceiverLaws.{Between}
 use Rattle.command.specs.Table.{cmd1For, cmd2For, same, layout, readable}
-use Rattle.command.specs.Rules.{allowed, blocked}
 use Rattle.command.specs.Settings.{valuesAfter, store}
+use Rattle.command.specs.Rules.{allowed, blocked}
+use Rattle.command.specs.Data.{joinAll}
 use Rattle.command.specs.Value.{dataOf, commandIn, valuesIn}
 use Rattle.command.specs.Transfer.{Closed}
 use Rattle.command.specs.Faults.{Arrived, arrived, wrongCommand}
 use Rattle.command.specs.Judgement.{judgeRead, judgeData}
 use Rattle.command.specs.Response.{response}
-use Rattle.command.specs.Player.{from, judged, next, State, responses, after}
-use Rattle.command.specs.Encoder.{writePacket, encoded}
-use Rattle.command.specs.declared.settings.Settings.{Settings}
-use Rattle.command.specs.declared.table.Command.{Command}
-use Rattle.command.specs.declared.judgement.Judgement.the-variants.{Read, Write}
-use Rattle.command.proofs.table.Laws.{Fit, fit-length, each}
-use Rattle.command.proofs.rules.Laws.{values-store}
-use Rattle.command.proofs.encoder.Laws.{arrived-plain, judge-plain, next-write, encoder-judged}
-use mathlib.Core.Option.{some}
-use lib.Seq.{take-at, drop-at}
-use Rattle.packet.specs.Stream.{hasPacket, packets, rest}
-use Rattle.packet.specs.Receiver.{with, waiting as receiverWaiting}
-use Rattle.packet.specs.Writer.{written}
-use Rattle.packet.specs.Calls.{Served, andThen, callsOn, servedOne, Call, served, joined}
-use Rattle.packet.specs.declared.receiver.Receiver.{Receiver}
-use Rattle.packet.proofs.StreamLaws.{IsPacket, packets-cons, rest-cons, packets-none, rest-none, packet-induction, packets-nil}
-use Rattle.packet.proofs.ReceiverLaws.{Between}
-use Rattle.packet.proofs.Calls.{same-calls, in-pieces}
 use Rattle.command.specs.Controller.{heldIn, transferIn}
 use Rattle.command.specs.Endpoint.{receiveCall}
-use Rattle.command.specs.declared.controller.Controller.{Controller}
-use Rattle.command.proofs.endpoint.Laws.{serves, Ready, endpoint-streams}
+use Rattle.command.specs.Player.{from, judged, next, State, responses, after}
+use Rattle.command.specs.Encoder.{writePacket, encoded}
+use Rattle.command.specs.declared.table.Command.{Command}
+use Rattle.command.specs.declared.settings.Settings.{Settings}
 use Rattle.command.specs.declared.value.Value.{Value}
+use Rattle.command.specs.declared.judgement.Judgement.the-variants.{Read, Write}
+use Rattle.command.specs.declared.controller.Controller.{Controller}
+use Rattle.command.proofs.table.Laws.{Fit, fit-length, each}
+use Rattle.command.proofs.rules.Laws.{values-store}
+use Rattle.command.proofs.endpoint.Laws.{serves, Ready, endpoint-streams}
 use Rattle.command.proofs.endpoint.Boundary.{stateOf, part-state, drawn, takes-packet, takes-part}
+use Rattle.command.proofs.encoder.Laws.{arrived-plain, judge-plain, next-write, encoder-judged}
 
 -- However the byte stream was cut.
 

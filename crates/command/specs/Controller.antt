@@ -5,17 +5,17 @@ use mathlib.Core.List.{List}
 use lib.Dec.{eqb, leb, ltb}
 use lib.ListN.{take, drop}
 use Rattle.packet.specs.Packet.{typeOf, cmd1Of, cmd2Of, flagsOf, payloadLength}
+use Rattle.packet.specs.Receiver.{fresh as freshReceiver}
 use Rattle.command.specs.Table.{cmd1For, cmd2For, commandOf, isKnown}
+use Rattle.command.specs.Settings.{factory}
+use Rattle.command.specs.Rules.{settingsInRule}
 use Rattle.command.specs.Transfer.{Transfer, Closed, Opened}
 use Rattle.command.specs.Faults.{Arrived}
 use Rattle.command.specs.declared.table.Found.{Found}
 use Rattle.command.specs.declared.table.Found.the-variants.{Known, Unknown}
+use Rattle.command.specs.declared.transfer.TransferState.{TransferState}
 use Rattle.command.specs.declared.judgement.Judgement.{Judgement}
 use Rattle.command.specs.declared.judgement.Judgement.the-variants.{Refuse, Hold, Write, Read}
-use Rattle.command.specs.declared.transfer.TransferState.{TransferState}
-use Rattle.packet.specs.Receiver.{fresh as freshReceiver}
-use Rattle.command.specs.Settings.{factory}
-use Rattle.command.specs.Rules.{settingsInRule}
 use Rattle.command.specs.declared.controller.Controller.{Controller}
 
 -- The transfer: none is open where `active` is 0.

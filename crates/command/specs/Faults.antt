@@ -6,9 +6,9 @@ use lib.Dec.{eqb, ltb}
 use lib.ListN.{length}
 use Rattle.packet.specs.Packet.{typeOf, cmd1Of, cmd2Of, flagsOf, payloadLength, payload, rightSum, hostWrite, hostRead, whole, beginning, intermediate, last}
 use Rattle.command.specs.Table.{isKnown, canRead}
+use Rattle.command.specs.Transfer.{Transfer, isOpen, held, openFor}
 use Rattle.command.specs.declared.table.Found.{Found}
 use Rattle.command.specs.declared.faults.Codes.{Codes}
-use Rattle.command.specs.Transfer.{Transfer, isOpen, held, openFor}
 
 -- a complete packet, as far as it is judged
 pub record Arrived : Type 0 where

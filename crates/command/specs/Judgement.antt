@@ -5,17 +5,17 @@ use mathlib.Core.List.{List, _++_}
 use lib.Dec.{eqb}
 use lib.ListN.{length}
 use Rattle.packet.specs.Packet.{hostRead, whole, last}
-use Rattle.command.specs.Data.{splitAll}
 use Rattle.command.specs.Table.{commandOf, layout, sizeOf}
 use Rattle.command.specs.Rules.{allowed, blocked}
+use Rattle.command.specs.Data.{splitAll}
 use Rattle.command.specs.Value.{valueFrom}
+use Rattle.command.specs.Transfer.{Transfer, held}
+use Rattle.command.specs.Faults.{Arrived, faults, anyFault, sizeFault, valueFault, modeFault}
 use Rattle.command.specs.declared.table.Command.{Command}
 use Rattle.command.specs.declared.table.Found.{Found}
 use Rattle.command.specs.declared.table.Found.the-variants.{Known, Unknown}
 use Rattle.command.specs.declared.judgement.Judgement.{Judgement}
 use Rattle.command.specs.declared.judgement.Judgement.the-variants.{Refuse, Hold, Write, Read}
-use Rattle.command.specs.Transfer.{Transfer, held}
-use Rattle.command.specs.Faults.{Arrived, faults, anyFault, sizeFault, valueFault, modeFault}
 
 -- a write of these data: 0A if they haven't the command's size, then 03 if a value isn't allowed, then 07 for run 1 outside mode 4
 unfoldable pub judgeWrite : Command → ℕ → List ℕ → Judgement

@@ -3,6 +3,7 @@ use Prim.Native.Nat.{ℕ}
 use mathlib.Core.Bool.{Bool, true, false, not, _&&_, cond}
 use mathlib.Core.List.{List, [], _∷_}
 use Rattle.packet.specs.Stream.{packets, rest}
+use Rattle.command.specs.Rules.{settingsInRule}
 use Rattle.command.specs.Transfer.{Transfer, Closed, isOpen}
 use Rattle.command.specs.Faults.{arrived}
 use Rattle.command.specs.Judgement.{judge}
@@ -10,7 +11,6 @@ use Rattle.command.specs.Carry.{settingsAfter, transferAfter}
 use Rattle.command.specs.Response.{acknowledged, response}
 use Rattle.command.specs.declared.settings.Settings.{Settings}
 use Rattle.command.specs.declared.judgement.Judgement.{Judgement}
-use Rattle.command.specs.Rules.{settingsInRule}
 
 -- the settings, and one open transfer or none
 pub record State : Type 0 where

@@ -5,34 +5,34 @@ use mathlib.Core.Bool.{Bool, true, false, cond, not, _&&_, _||_, and-false}
 use mathlib.Core.List.{List, _++_}
 use native.Mathlib.Omega.{arith}
 use lib.Dec.{eqb}
-use borrow.Author.Tests.{eq-eqb, eqb-true, le-ltb}
 use lib.ListN.{length}
+use borrow.Author.Tests.{eq-eqb, eqb-true, le-ltb}
 use Rattle.packet.specs.Number.{Bytes}
 use Rattle.packet.specs.Packet.{typeOf, cmd1Of, cmd2Of, flagsOf, payloadLength, payload, sum, sealed, packetOf, hostWrite, hostRead, whole}
 use Rattle.packet.proofs.NumberLaws.{bytes-take, bytes-drop}
 use Rattle.packet.proofs.StreamLaws.{IsPacket}
 use Rattle.packet.proofs.WriterLaws.{length-written, packet-written, payload-written, sum-written, packet-remade}
-use Rattle.command.specs.Data.{joinAll}
 use Rattle.command.specs.Table.{cmd1For, cmd2For, commandOf, isKnown, canRead, layout, sizeOf}
-use Rattle.command.specs.Rules.{allowed, blocked}
 use Rattle.command.specs.Settings.{store}
+use Rattle.command.specs.Rules.{allowed, blocked}
+use Rattle.command.specs.Data.{joinAll}
 use Rattle.command.specs.Value.{commandIn, valuesIn, valueFrom, dataIn}
 use Rattle.command.specs.Transfer.{Transfer, Closed, Opened, isOpen, held, openFor}
 use Rattle.command.specs.Faults.{Arrived, arrived, wrongCommand, tooLong, wrongOrder, faultsOf, faults, anyFault, modeFault}
 use Rattle.command.specs.Judgement.{judgeWrite, judgeData, judge}
 use Rattle.command.specs.Player.{State, from, judged, next}
 use Rattle.command.specs.Encoder.{writePacket, encoded}
-use Rattle.command.specs.declared.settings.Settings.{Settings}
 use Rattle.command.specs.declared.table.Command.{Command}
 use Rattle.command.specs.declared.table.Found.{Found}
 use Rattle.command.specs.declared.table.Found.the-variants.{Known}
-use Rattle.command.specs.declared.judgement.Judgement.the-variants.{Refuse, Write}
+use Rattle.command.specs.declared.settings.Settings.{Settings}
 use Rattle.command.specs.declared.value.Value.{Value}
-use Rattle.command.proofs.data.Laws.{split-join, length-join, join-split}
+use Rattle.command.specs.declared.judgement.Judgement.the-variants.{Refuse, Write}
 use Rattle.command.proofs.table.Laws.{Fit, fit-length, found, known-code, size-small}
+use Rattle.command.proofs.data.Laws.{split-join, length-join, join-split}
+use Rattle.command.proofs.value.Laws.{command-from, values-from, value-from}
 use Rattle.command.proofs.transfer.Laws.{faultless}
 use Rattle.command.proofs.judgement.Laws.{OfWrite, of-judge}
-use Rattle.command.proofs.value.Laws.{command-from, values-from, value-from}
 
 -- a packet without flags that this layer makes, as it arrives
 abbrev pub plain : ℕ → Command → List ℕ → Arrived

@@ -7,20 +7,20 @@ use native.Mathlib.Omega.{arith}
 use lib.ListN.{length, getD, take, length-append}
 use Rattle.packet.specs.Packet.{sum, hostWrite, whole}
 use Rattle.packet.specs.Stream.{packets, rest}
-use Rattle.packet.proofs.WriterLaws.{size-written}
 use Rattle.packet.proofs.StreamLaws.{IsPacket, packets-nil, rest-nil, packets-cons, rest-cons}
+use Rattle.packet.proofs.WriterLaws.{size-written}
 use Rattle.command.specs.Table.{table, cmd1For, cmd2For, layout, sizeOf}
 use Rattle.command.specs.Settings.{valuesOf, factory, valuesAfter, store}
 use Rattle.command.specs.Rules.{blocked}
 use Rattle.command.specs.Value.{dataOf, valueFrom}
 use Rattle.command.specs.Player.{State, from, judgements, after, play, allAcknowledged, clean}
 use Rattle.command.specs.Encoder.{writePacket, encoded, listOf, standardList}
-use Rattle.command.specs.declared.settings.Settings.{Settings}
 use Rattle.command.specs.declared.table.Command.{Command}
+use Rattle.command.specs.declared.settings.Settings.{Settings}
 use Rattle.command.proofs.table.Laws.{each, size-small}
+use Rattle.command.proofs.rules.Laws.{Kept, Fits, length-values}
 use Rattle.command.proofs.data.Laws.{length-join}
 use Rattle.command.proofs.value.Laws.{command-from, data-from}
-use Rattle.command.proofs.rules.Laws.{Kept, Fits, length-values}
 use Rattle.command.proofs.encoder.Laws.{write-packet, next-write}
 
 -- the settings t after the values of s were written with each command of a list

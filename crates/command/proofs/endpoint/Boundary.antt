@@ -6,6 +6,7 @@ use mathlib.Core.List.{List, _++_, [], _∷_, append-assoc}
 use native.Mathlib.Omega.{arith}
 use lib.Dec.{eqb}
 use lib.ListN.{length, getD, take, drop, set, length-append, length-drop}
+use lib.Seq.{sets, sets-eq, take-set-le, getD-take, take-at, drop-at, length-take-le}
 use Rattle.packet.specs.Packet.{writeResponse, packetOf, sealed, payloadLength, payload}
 use Rattle.packet.specs.Stream.{hasPacket, size}
 use Rattle.packet.specs.Receiver.{with, waiting as receiverWaiting}
@@ -14,31 +15,30 @@ use Rattle.packet.specs.declared.receiver.Received.{Received}
 use Rattle.packet.proofs.Cases.{bool-cases}
 use Rattle.packet.proofs.StreamLaws.{IsPacket}
 use Rattle.packet.proofs.ReceiverLaws.{Between, between-packet, one, first-of, too-few}
-use Rattle.command.specs.Faults.{arrived, Arrived, faults, anyFault}
-use Rattle.command.specs.Response.{acknowledged, response}
-use Rattle.command.specs.Player.{judged, next, State}
-use Rattle.command.specs.Controller.{heldIn, transferIn, transferInRule}
-use Rattle.command.specs.Endpoint.{Answers, responseIn, After, waiting, receiveCall, arrivedIn, judgedIn, carriedOut}
-use Rattle.command.specs.declared.judgement.Judgement.{Judgement}
-use Rattle.command.specs.declared.controller.Controller.{Controller}
-use Rattle.command.proofs.judgement.Laws.{acknowledged-type}
-use Rattle.command.proofs.endpoint.Laws.{Ready, stays-in-rule, Bounded, bounded, call-is}
 use Rattle.command.specs.Table.{commandOf}
 use Rattle.command.specs.Transfer.{Transfer, Opened, held}
+use Rattle.command.specs.Faults.{arrived, Arrived, faults, anyFault}
 use Rattle.command.specs.Judgement.{judge}
-use Rattle.command.specs.declared.judgement.Judgement.the-variants.{Read, Refuse, Hold, Write}
-use Rattle.command.proofs.table.Laws.{found}
-use lib.Seq.{sets, sets-eq, take-set-le, getD-take, take-at, drop-at, length-take-le}
 use Rattle.command.specs.Carry.{settingsAfter, transferAfter}
+use Rattle.command.specs.Response.{acknowledged, response}
+use Rattle.command.specs.Controller.{heldIn, transferIn, transferInRule}
+use Rattle.command.specs.Endpoint.{Answers, responseIn, After, waiting, receiveCall, arrivedIn, judgedIn, carriedOut}
+use Rattle.command.specs.Player.{judged, next, State}
 use Rattle.command.specs.declared.transfer.TransferState.{TransferState}
+use Rattle.command.specs.declared.judgement.Judgement.{Judgement}
+use Rattle.command.specs.declared.judgement.Judgement.the-variants.{Read, Refuse, Hold, Write}
+use Rattle.command.specs.declared.controller.Controller.{Controller}
+use Rattle.command.proofs.table.Laws.{found}
 use Rattle.command.proofs.transfer.Laws.{fits-hold, by-transfer, held-is, held-length}
+use Rattle.command.proofs.judgement.Laws.{acknowledged-type}
 use Rattle.command.proofs.controller.Laws.{Rule, rule-parts}
+use Rattle.command.proofs.endpoint.Laws.{Ready, stays-in-rule, Bounded, bounded, call-is}
 
 -- the state of the head, in document 01's terms
 abbrev pub stateOf : Controller → State
 stateOf c = record { settings = c .settings; transfer = transferIn (c .transfer) (c .receiver .hold) }
 
--- bytes stored behind the held ones leave those
+-- bytes stored after the held ones leave those
 take-sets : (xs l : List ℕ) (i j : ℕ) → i ≤ j → take i (sets l j xs) ≡ take i l
 take-sets [] l i j h = refl
 take-sets (x ∷ xs) l i j h = take-sets xs (set l j x) i (suc j) (omega arith) ∙ take-set-le i l j x h
@@ -94,7 +94,7 @@ module _ (c : Controller) (k : Ready c) (p : List ℕ) (i : IsPacket p) where
   held-same : length (held (transferIn (c .transfer) (c .receiver .hold))) ≡ h
   held-same = held-length (c .transfer) (rule .transfer) (c .receiver .hold) (k .made .hold)
 
-  -- a payload that fits stands in the hold behind the held bytes
+  -- a payload that fits stands in the hold after the held bytes
   stands : h + payloadLength p ≤ 1024 → (take (payloadLength p) (drop h stored) ≡ payload p) × (take (h + payloadLength p) stored ≡ take h (c .receiver .hold) ++ payload p)
   stands l = stored-part (c .receiver .hold) (payload p) h (payloadLength p) long (omega (arith, k .made .hold))
 

@@ -6,17 +6,17 @@ use mathlib.Core.List.{List, [], _∷_, _++_}
 use mathlib.Core.Option.{Option, none, some}
 use native.Mathlib.Omega.{arith}
 use lib.Dec.{ltb}
-use borrow.Author.Tests.{lt-ltb, le-ltb, ltb-true, ltb-false, le-leb}
 use lib.ListN.{length, take}
 use lib.Seq.{sets}
+use borrow.Author.Tests.{lt-ltb, le-ltb, ltb-true, ltb-false, le-leb}
+use Rattle.packet.specs.Calls.{Call}
 use Rattle.packet.specs.Packet.{payloadLength}
 use Rattle.packet.specs.Receiver.{with, missing, waiting as receiverWaiting, completed}
-use Rattle.packet.specs.Calls.{Call}
 use Rattle.packet.specs.declared.receiver.Receiver.{Receiver}
 use Rattle.packet.specs.declared.receiver.Received.{Received}
 use Rattle.packet.proofs.Cases.{bool-cases}
-use Rattle.packet.proofs.ReceiverLaws.{Made, made-with, made-between, with-nil, missing-least, after, cut, behind, waits, completes}
 use Rattle.packet.proofs.Calls.{Streaming, shifted}
+use Rattle.packet.proofs.ReceiverLaws.{Made, made-with, made-between, with-nil, missing-least, after, cut, behind, waits, completes}
 use Rattle.command.specs.Table.{commandOf}
 use Rattle.command.specs.Transfer.{Transfer, held}
 use Rattle.command.specs.Faults.{Arrived}
@@ -24,16 +24,16 @@ use Rattle.command.specs.Judgement.{judge}
 use Rattle.command.specs.Carry.{settingsAfter}
 use Rattle.command.specs.Controller.{heldIn, transferIn, transferInRule, transferStateAfter, packetInRule, inRule}
 use Rattle.command.specs.Endpoint.{Outcome, Refuses, Waits, Answers, arrivedIn, judgedIn, carriedOut, responseIn, takenBy, After, waiting, answered, receiveCall}
+use Rattle.command.specs.declared.transfer.TransferState.{TransferState}
 use Rattle.command.specs.declared.judgement.Judgement.{Judgement}
 use Rattle.command.specs.declared.judgement.Judgement.the-variants.{Refuse, Hold, Write, Read}
-use Rattle.command.specs.declared.transfer.TransferState.{TransferState}
 use Rattle.command.specs.declared.controller.Controller.{Controller}
-use Rattle.command.proofs.controller.Laws.{Rule, rule-parts, rule-whole}
 use Rattle.command.proofs.table.Laws.{found}
 use Rattle.command.proofs.rules.Laws.{kept-by, in-rule-of}
-use Rattle.command.proofs.judgement.Laws.{judge-cases, sound}
-use Rattle.command.proofs.player.Laws.{kept-judgement}
 use Rattle.command.proofs.transfer.Laws.{fits-hold, held-length}
+use Rattle.command.proofs.judgement.Laws.{judge-cases, sound}
+use Rattle.command.proofs.controller.Laws.{Rule, rule-parts, rule-whole}
+use Rattle.command.proofs.player.Laws.{kept-judgement}
 
 -- what a call shows of its answer: the bytes taken, and the response at the output's start
 abbrev pub takenOf : Outcome → ℕ

@@ -5,35 +5,35 @@ use mathlib.Core.Bool.{Bool, true, false, cond}
 use mathlib.Core.List.{List, _++_}
 use native.Mathlib.Omega.{arith}
 use lib.Dec.{eqb}
-use borrow.Author.Tests.{eqb-true}
 use lib.ListN.{length, take}
+use borrow.Author.Tests.{eqb-true}
 use Rattle.packet.specs.Number.{Bytes}
 use Rattle.packet.specs.Packet.{typeOf, cmd1Of, cmd2Of, flagsOf, payloadLength, hostRead, writeResponse}
 use Rattle.packet.proofs.Cases.{bool-cases, cond-cases}
-use Rattle.command.specs.Data.{splitAll}
 use Rattle.command.specs.Table.{commandOf, layout, sizeOf}
 use Rattle.command.specs.Rules.{allowed, blocked}
+use Rattle.command.specs.Data.{splitAll}
 use Rattle.command.specs.Value.{commandIn, valuesIn, valueFrom, parsed}
 use Rattle.command.specs.Transfer.{Transfer, held}
 use Rattle.command.specs.Faults.{Arrived, faultsOf, faults, anyFault, sizeFault, valueFault, modeFault}
 use Rattle.command.specs.Judgement.{judgeWrite, judgeRead, completes, judgeData, judge}
 use Rattle.command.specs.Response.{acknowledged, responseType}
+use Rattle.command.specs.Controller.{heldIn, transferIn, transferInRule, packetIn}
+use Rattle.command.specs.Inner.{isOpenIn, openForIn}
 use Rattle.command.specs.declared.table.Command.{Command}
 use Rattle.command.specs.declared.table.Found.{Found}
 use Rattle.command.specs.declared.table.Found.the-variants.{Known, Unknown}
-use Rattle.command.specs.declared.judgement.Judgement.{Judgement}
-use Rattle.command.specs.declared.judgement.Judgement.the-variants.{Refuse, Hold, Write, Read}
-use Rattle.command.specs.Controller.{heldIn, transferIn, transferInRule, packetIn}
-use Rattle.command.specs.Inner.{isOpenIn, openForIn}
-use Rattle.command.specs.declared.faults.Codes.{Codes}
-use Rattle.command.specs.declared.transfer.TransferState.{TransferState}
 use Rattle.command.specs.declared.value.Parsed.{Parsed}
 use Rattle.command.specs.declared.value.Parsed.the-variants.{Values, WrongSize}
-use Rattle.command.proofs.transfer.Laws.{fits-hold, held-length, faults-are, joined-data}
-use Rattle.command.proofs.data.Laws.{split-length, fit-split}
+use Rattle.command.specs.declared.transfer.TransferState.{TransferState}
+use Rattle.command.specs.declared.faults.Codes.{Codes}
+use Rattle.command.specs.declared.judgement.Judgement.{Judgement}
+use Rattle.command.specs.declared.judgement.Judgement.the-variants.{Refuse, Hold, Write, Read}
 use Rattle.command.proofs.table.Laws.{Fit}
-use Rattle.command.proofs.value.Laws.{command-from, values-from}
 use Rattle.command.proofs.rules.Laws.{Writable}
+use Rattle.command.proofs.data.Laws.{split-length, fit-split}
+use Rattle.command.proofs.value.Laws.{command-from, values-from}
+use Rattle.command.proofs.transfer.Laws.{fits-hold, held-length, faults-are, joined-data}
 
 -- What holds of every judgement that a packet can come to holds of its judgement. Past the first group, with f the command and d the joined data:
 pub record Later (P : Judgement → Type 0) (mode type : ℕ) (f : Found) (d : List ℕ) : Type 0 where

@@ -7,20 +7,20 @@ use Rattle.packet.specs.Packet.{payloadLength, payload}
 use Rattle.packet.specs.Stream.{packets}
 use Rattle.packet.proofs.NumberLaws.{bytes-append, bytes-take, bytes-drop}
 use Rattle.packet.proofs.StreamLaws.{AllBytes, packets-bytes}
+use Rattle.command.specs.Table.{layout}
+use Rattle.command.specs.Settings.{store}
+use Rattle.command.specs.Value.{commandIn, valuesIn}
 use Rattle.command.specs.Transfer.{Transfer, held}
 use Rattle.command.specs.Faults.{Arrived, arrived}
 use Rattle.command.specs.Judgement.{judge}
 use Rattle.command.specs.Carry.{settingsAfter, transferAfter}
 use Rattle.command.specs.Player.{State, from, judged, next, after, play}
+use Rattle.command.specs.declared.table.Command.{Command}
 use Rattle.command.specs.declared.settings.Settings.{Settings}
 use Rattle.command.specs.declared.judgement.Judgement.{Judgement}
 use Rattle.command.specs.declared.judgement.Judgement.the-variants.{Refuse, Hold, Write, Read}
-use Rattle.command.specs.Value.{commandIn, valuesIn}
-use Rattle.command.proofs.rules.Laws.{Kept, Fits, Writable, kept-store, fits-store}
 use Rattle.command.proofs.table.Laws.{Fit}
-use Rattle.command.specs.Table.{layout}
-use Rattle.command.specs.Settings.{store}
-use Rattle.command.specs.declared.table.Command.{Command}
+use Rattle.command.proofs.rules.Laws.{Kept, Fits, Writable, kept-store, fits-store}
 use Rattle.command.proofs.judgement.Laws.{OfWrite, Sound, sound, fitting}
 
 -- the state keeps the rules: its settings do, their values fit, and what is held are bytes

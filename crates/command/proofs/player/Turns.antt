@@ -5,20 +5,20 @@ use mathlib.Core.Bool.{Bool, true, false, _&&_, and-assoc, and-true, Bool·not-n
 use mathlib.Core.List.{List, [], _∷_, _++_}
 use native.Mathlib.Omega.{arith}
 use lib.Dec.{eqb}
-use borrow.Author.Tests.{eq-eqb, ne-eqb}
 use lib.ListN.{length, length-append, getD, take, drop, length-drop, take-append-drop, drop-of-length-le, length-replicate}
 use lib.Seq.{drop-drop, drop-at}
+use borrow.Author.Tests.{eq-eqb, ne-eqb}
 use Rattle.packet.specs.Packet.{writeResponse}
-use Rattle.packet.specs.Receiver.{fresh, zeros, with, waiting as receiverWaiting}
 use Rattle.packet.specs.Stream.{size, hasPacket, packets, rest}
+use Rattle.packet.specs.Receiver.{fresh, zeros, with, waiting as receiverWaiting}
 use Rattle.packet.proofs.Cases.{bool-cases}
 use Rattle.packet.proofs.StreamLaws.{IsPacket, first-packet, packets-nil, rest-nil, packets-cons, rest-cons, packets-none, rest-none}
 use Rattle.packet.proofs.ReceiverLaws.{Between}
 use Rattle.command.specs.Rules.{settingsInRule}
-use Rattle.command.specs.declared.settings.Settings.{Settings}
-use Rattle.command.specs.Player.{State, from, judgements, after, play, allAcknowledged, isNil, clean}
 use Rattle.command.specs.Controller.{noTransfer, transferInRule, packetInRule, inRule}
 use Rattle.command.specs.Endpoint.{Waits, Answers, After, receiveCall}
+use Rattle.command.specs.Player.{State, from, judgements, after, play, allAcknowledged, isNil, clean}
+use Rattle.command.specs.declared.settings.Settings.{Settings}
 use Rattle.command.specs.declared.controller.Controller.{Controller}
 use Rattle.command.proofs.transfer.Laws.{open-is}
 use Rattle.command.proofs.controller.Laws.{rule-parts}

@@ -5,9 +5,9 @@ use mathlib.Core.Bool.{Bool, true, false, not, _&&_, _||_, and-true}
 use mathlib.Core.List.{List, _++_}
 use native.Mathlib.Omega.{arith}
 use lib.Dec.{eqb, ltb, leb}
-use borrow.Author.Tests.{eq-eqb, ne-eqb, eqb-true, eqb-false, ltb-false, leb-true, not-false}
 use lib.ListN.{length, take, drop}
 use lib.Seq.{length-take-le, take-add}
+use borrow.Author.Tests.{eq-eqb, ne-eqb, eqb-true, eqb-false, ltb-false, leb-true, not-false}
 use Rattle.packet.specs.Packet.{payloadLength, hostWrite, whole, beginning, intermediate, last}
 use Rattle.packet.proofs.Cases.{bool-cases, and-left, and-right, or-left, or-right}
 use Rattle.command.specs.Table.{cmd1For, cmd2For, hasCode, commandOf, isKnown, same}

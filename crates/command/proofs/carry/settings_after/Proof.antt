@@ -2,14 +2,14 @@
 use Prim.Native.Nat.{ℕ}
 use mathlib.Core.Path.{_≡_, refl}
 use mathlib.Core.List.{List, [], _∷_}
-use types.Run.{OneOf, miss}
+use borrow.Author.Needs.{needs}
 use denote.Enum.Declared.{tagOf}
+use types.Run.{OneOf, miss}
 use Rattle.command.specs.Carry.{settingsAfter}
 use Rattle.command.specs.declared.settings.Settings.{Settings}
 use Rattle.command.specs.declared.judgement.Judgement.{Judgement}
 use Rattle.command.specs.declared.judgement.Judgement.the-variants.{Refuse, Hold, Write, Read}
 use Rattle.command.proofs.judgement.Judgement.{the-type}
-use borrow.Author.Needs.{needs}
 use Rattle.command.proofs.carry.settings_after.Statement.{statement}
 use Rattle.command.proofs.carry.settings_after.Tie as tie
 

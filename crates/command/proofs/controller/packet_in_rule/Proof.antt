@@ -1,6 +1,6 @@
 -- `packet_in_rule` meets its contract.
-use Rattle.command.specs.Controller.{packetInRule}
 use borrow.Author.Needs.{needs}
+use Rattle.command.specs.Controller.{packetInRule}
 use Rattle.command.proofs.controller.packet_in_rule.Statement.{statement}
 use Rattle.command.proofs.controller.packet_in_rule.Tie as tie
 

@@ -1,17 +1,17 @@
 -- `put_list` meets its contract. The loop's invariant: the writes of the commands passed stand at the start of the output.
 use Prim.Native.Nat.{ℕ, _≤_, _-_, _+_}
 use mathlib.Core.Path.{_≡_, refl, ap, sym, _∙_}
-use native.Mathlib.Omega.{arith}
-use borrow.Author.Needs.{needs}
 use mathlib.Core.List.{List, _++_}
-use borrow.Rule.Slice.PartMut.{putMid}
+use native.Mathlib.Omega.{arith}
 use lib.ListN.{length, take, drop, length-take, length-drop, length-append}
+use borrow.Author.Needs.{needs}
+use borrow.Rule.Slice.PartMut.{putMid}
 use Rattle.packet.specs.Packet.{sum}
 use Rattle.packet.specs.Writer.{written}
 use Rattle.packet.proofs.WriterLaws.{written-none, written-part, length-written-to}
 use Rattle.command.specs.Table.{table, commandAt, sizeOf}
-use Rattle.command.specs.Encoder.{writePacket, listOf, standardList}
 use Rattle.command.specs.Value.{dataOf}
+use Rattle.command.specs.Encoder.{writePacket, listOf, standardList}
 use Rattle.command.specs.declared.table.Command.the-variants.{SequenceRun}
 use Rattle.command.proofs.encoder.Lists.{list-size, list-more, list-left, write-most, encoded-value, sizes}
 use Rattle.command.proofs.encoder.put_list.Statement.{statement}

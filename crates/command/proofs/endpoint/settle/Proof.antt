@@ -1,10 +1,10 @@
 -- `settle` meets its contract.
 use mathlib.Core.Path.{refl}
 use native.Mathlib.Omega.{arith}
+use borrow.Author.Needs.{needs}
 use Rattle.command.specs.Response.{response}
 use Rattle.command.specs.Endpoint.{judgedIn, responseIn}
 use Rattle.command.proofs.transfer.Laws.{held-most}
-use borrow.Author.Needs.{needs}
 use Rattle.command.proofs.endpoint.settle.Statement.{statement}
 use Rattle.command.proofs.endpoint.settle.Tie as tie
 

@@ -1,7 +1,7 @@
 -- `faults` meets its contract.
-use Rattle.command.specs.Faults.{faultsOf}
 use native.Mathlib.Omega.{arith}
 use borrow.Author.Needs.{needs}
+use Rattle.command.specs.Faults.{faultsOf}
 use Rattle.command.proofs.transfer.Laws.{held-most}
 use Rattle.command.proofs.faults.faults.Statement.{statement}
 use Rattle.command.proofs.faults.faults.Tie as tie

@@ -1,6 +1,6 @@
 -- `wrong_command` meets its contract.
-use Rattle.command.specs.Faults.{wrongCommand}
 use borrow.Author.Needs.{needs}
+use Rattle.command.specs.Faults.{wrongCommand}
 use Rattle.command.proofs.faults.wrong_command.Statement.{statement}
 use Rattle.command.proofs.faults.wrong_command.Tie as tie
 

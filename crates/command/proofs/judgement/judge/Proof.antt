@@ -3,10 +3,10 @@ use Prim.Native.Nat.{_+_, _≤_}
 use mathlib.Core.Bool.{cond}
 use mathlib.Core.Path.{_≡_, sym, ap, _∙_}
 use native.Mathlib.Omega.{arith}
-use borrow.Author.Needs.{needs}
-use denote.Ref.{now}
 use lib.ListN.{take}
 use lib.Seq.{length-take-le}
+use borrow.Author.Needs.{needs}
+use denote.Ref.{now}
 use Rattle.packet.specs.Packet.{typeOf, flagsOf, payloadLength}
 use Rattle.command.specs.Faults.{anyFault}
 use Rattle.command.specs.Judgement.{judgeData, judge}

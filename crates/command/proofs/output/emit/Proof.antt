@@ -2,13 +2,13 @@
 use Prim.Native.Nat.{ℕ, _+_, _≤_}
 use mathlib.Core.Path.{_≡_, ap, sym, _∙_}
 use native.Mathlib.Omega.{arith}
-use denote.Ref.{now}
 use lib.ListN.{length}
 use lib.Seq.{length-take-le}
+use borrow.Author.Needs.{needs}
+use denote.Ref.{now}
 use Rattle.packet.specs.Packet.{whole}
 use Rattle.packet.proofs.WriterLaws.{has-room, size-written}
 use Rattle.command.specs.Inner.{contents}
-use borrow.Author.Needs.{needs}
 use Rattle.command.proofs.output.emit.Statement.{statement}
 use Rattle.command.proofs.output.emit.Tie as tie
 

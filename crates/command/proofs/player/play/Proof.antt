@@ -2,26 +2,26 @@
 use Prim.Native.Nat.{ℕ, _≤_, _<_, _-_, _+_}
 use mathlib.Core.Path.{_≡_, refl, sym, ap, _∙_}
 use mathlib.Core.Bool.{true, _&&_}
-use native.Mathlib.Omega.{arith}
-use borrow.Author.Needs.{needs}
-use borrow.Author.Tests.{not-true, not-false}
-use denote.Ref.{now}
-use types.Run.{OneOf, miss}
-use denote.Enum.Declared.{tagOf}
 use mathlib.Core.List.{List, [], _∷_}
+use native.Mathlib.Omega.{arith}
 use lib.Dec.{eqb}
 use lib.ListN.{length, getD, take, drop, length-drop}
 use lib.Seq.{take-all}
+use borrow.Author.Needs.{needs}
+use borrow.Author.Tests.{not-true, not-false}
+use denote.Ref.{now}
+use denote.Enum.Declared.{tagOf}
+use types.Run.{OneOf, miss}
 use Rattle.packet.specs.Packet.{writeResponse}
 use Rattle.packet.specs.Receiver.{fresh, zeros}
 use Rattle.command.specs.Rules.{settingsInRule}
-use Rattle.command.specs.declared.settings.Settings.{Settings}
 use Rattle.command.specs.Controller.{noTransfer}
 use Rattle.command.specs.Endpoint.{Answers, outcomeOf, After, receiveCall}
+use Rattle.command.specs.Inner.{controllerOf}
+use Rattle.command.specs.declared.settings.Settings.{Settings}
 use Rattle.command.specs.declared.endpoint.Answer.{Answer}
 use Rattle.command.specs.declared.endpoint.Answer.the-variants.{Waiting, Answered, ShortOutput, OutOfRule}
 use Rattle.command.proofs.endpoint.Answer.{the-type}
-use Rattle.command.specs.Inner.{controllerOf}
 use Rattle.command.proofs.player.Turns.{Going, going-start, going-packet, going-end, going-done, ready-fresh, between-fresh}
 use Rattle.command.proofs.player.play.Statement.{statement}
 use Rattle.command.proofs.player.play.Tie as tie

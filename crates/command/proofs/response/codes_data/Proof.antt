@@ -4,9 +4,9 @@ use mathlib.Core.Path.{_≡_, refl}
 use mathlib.Core.Bool.{Bool, true, false}
 use mathlib.Core.List.{List, [], _++_}
 use native.Mathlib.Omega.{arith}
+use borrow.Author.Needs.{needs}
 use Rattle.command.specs.Faults.{listIf, codesOf}
 use Rattle.command.specs.declared.faults.Codes.{Codes}
-use borrow.Author.Needs.{needs}
 use Rattle.command.proofs.response.codes_data.Statement.{statement}
 use Rattle.command.proofs.response.codes_data.Tie as tie
 

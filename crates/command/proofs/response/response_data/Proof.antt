@@ -1,8 +1,8 @@
 -- `response_data` meets its contract: in each arm the judgement is known.
 use mathlib.Core.Path.{refl}
 use native.Mathlib.Omega.{arith}
-use Rattle.command.proofs.value.Laws.{data-from}
 use borrow.Author.Needs.{needs}
+use Rattle.command.proofs.value.Laws.{data-from}
 use Rattle.command.proofs.response.response_data.Statement.{statement}
 use Rattle.command.proofs.response.response_data.Tie as tie
 

@@ -5,8 +5,8 @@ use native.Mathlib.Numerals.{add-one}
 use native.Mathlib.Omega.{arith}
 use lib.ListN.{length}
 use lib.Seq.{take-suc-set}
-use Rattle.command.specs.Inner.{contents}
 use borrow.Author.Needs.{needs}
+use Rattle.command.specs.Inner.{contents}
 use Rattle.command.proofs.response.with_code.Statement.{statement}
 use Rattle.command.proofs.response.with_code.Tie as tie
 

@@ -1,6 +1,6 @@
 -- `TransferState::in_rule` meets its contract.
-use Rattle.command.specs.Controller.{transferInRule}
 use borrow.Author.Needs.{needs}
+use Rattle.command.specs.Controller.{transferInRule}
 use Rattle.command.proofs.transfer.TransferState.in_rule.Statement.{statement}
 use Rattle.command.proofs.transfer.TransferState.in_rule.Tie as tie
 
