@@ -4,6 +4,7 @@ use crate::output::emit;
 use crate::rules::allowed;
 use crate::rules::settings_in_rule;
 use crate::settings::Settings;
+use crate::settings::value_of;
 use crate::table::Command;
 use crate::value::Value;
 use crate::value::data_of;
@@ -48,7 +49,7 @@ fn put_list(out: &mut [u8], s: Settings) -> usize
     let mut at: usize = 0;
     let mut k: usize = 0;
     while k < COMMANDS {
-        let v = crate::settings::value_of(s, Command::at(k));
+        let v = value_of(s, Command::at(k));
         at += put(&mut out[at..], v);
         k += 1;
     }

@@ -70,7 +70,7 @@ impl Codes {
     }
 }
 
-// 02: the type is neither, or the command cannot be read or is not in the table.
+// 02: the type is neither write nor read, the command is not in the table, or it cannot be read.
 fn wrong_command(found: Found, kind: u8) -> bool
     ensures { λ r. ⌜ r ≡ wrongCommand found kind ⌝ }
 {
@@ -81,7 +81,7 @@ fn wrong_command(found: Found, kind: u8) -> bool
         | ((kind == packet::HOST_READ) & !readable)
 }
 
-// 04: the payload alone, or with the bytes that are held, is over what the hold has room for.
+// 04: the payload alone, or with the bytes that are held, is more than the hold has room for.
 fn too_long(active: bool, held: usize, flags: u8, size: usize) -> bool
     requires { ⌜ (held ≤ 1024) × (size < 65536) ⌝ }
     ensures { λ r. ⌜ r ≡ tooLong active held flags size ⌝ }
@@ -96,7 +96,7 @@ fn too_long(active: bool, held: usize, flags: u8, size: usize) -> bool
 fn wrong_order(active: bool, ours: bool, kind: u8, flags: u8) -> bool
     ensures { λ r. ⌜ r ≡ wrongOrder active ours kind flags ⌝ }
 {
-    (3 < flags)
+    (packet::LAST < flags)
         | ((kind != packet::HOST_WRITE) & (flags != packet::WHOLE))
         | (((flags == packet::INTERMEDIATE) | (flags == packet::LAST)) & !ours)
         | (((flags == packet::WHOLE) | (flags == packet::BEGINNING)) & active)

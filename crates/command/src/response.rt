@@ -4,6 +4,7 @@ use crate::faults::Codes;
 use crate::judgement::Judgement;
 use crate::output::emit;
 use crate::settings::Settings;
+use crate::settings::value_of;
 use crate::value::data_of;
 ghost use mathlib.Core.Bool.{cond};
 ghost use mathlib.Core.List.{[], _∷_, _++_};
@@ -62,7 +63,7 @@ fn response_data(s: Settings, j: Judgement) -> Data
         Judgement::Refuse(k) => codes_data(k),
         Judgement::Hold(_) => Data::EMPTY,
         Judgement::Write(_) => Data::EMPTY,
-        Judgement::Read(c) => data_of(crate::settings::value_of(s, c)),
+        Judgement::Read(c) => data_of(value_of(s, c)),
     }
 }
 

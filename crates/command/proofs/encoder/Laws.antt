@@ -1,4 +1,4 @@
--- Write packets: the encoder's packet is judged as its write, an accepted whole write encodes to its own bytes, and lists of writes.
+-- Write packets: the encoder's packet is judged as its write, and an accepted whole write encodes to its own bytes.
 use Prim.Native.Nat.{ℕ, _≤_}
 use mathlib.Core.Path.{_≡_, refl, ap, sym, subst, _∙_}
 use mathlib.Core.Bool.{Bool, true, false, cond, not, _&&_, _||_, and-false}

@@ -1,4 +1,4 @@
--- What is known of a judgement.
+-- The ways a packet can be judged, what is known of a write that is carried out, and how the steps of the code make up the judgement.
 use Prim.Native.Nat.{ℕ, _+_, _≤_}
 use mathlib.Core.Path.{_≡_, refl, ap, _∙_}
 use mathlib.Core.Bool.{Bool, true, false, cond}

@@ -1,4 +1,4 @@
--- Playing: what it keeps, packets one after the other, and what a list of writes leaves.
+-- Playing: what it keeps, and packets in two runs.
 use Prim.Native.Nat.{ℕ}
 use mathlib.Core.Path.{_≡_, refl}
 use mathlib.Core.List.{List, [], _∷_, _++_}

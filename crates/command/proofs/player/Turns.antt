@@ -48,17 +48,19 @@ none-left : (b : List ℕ) → drop (length b) b ≡ []
 none-left b = drop-of-length-le b {i = length b} (omega arith)
 
 -- A turn: the call r on the bytes that are left.
-module _
-    (s : Settings)
-    (b out : List ℕ)
-    (c : Controller)
-    (good : Bool)
-    (at : ℕ)
-    (g : Going s b c good at)
-    (l : 64 ≤ length out)
-    (h : at < length b)
-    (r : After)
-    (e : r ≡ receiveCall c (drop at b) out) where
+pub record Turn (s : Settings) (b out : List ℕ) (c : Controller) (good : Bool) (at : ℕ) (r : After) : Type 0 where
+  pub going : Going s b c good at
+  pub room : 64 ≤ length out
+  pub left : at < length b
+  pub call : r ≡ receiveCall c (drop at b) out
+
+module _ {s : Settings} {b out : List ℕ} {c : Controller} {good : Bool} {at : ℕ} {r : After} (x : Turn s b out c good at r) where
+  abbrev g : Going s b c good at
+  g = x .going
+
+  abbrev between : Between (c .receiver)
+  between = x .going .boundary (x .left)
+
   -- it completes the packet p, with q after it, or none
   turn : {P : Type 0} → ((p q : List ℕ) → IsPacket p → p ++ q ≡ drop at b → Takes out c p r → P) → (hasPacket (drop at b) ≡ false → P) → P
   turn some none =
@@ -68,7 +70,7 @@ module _
       let q : List ℕ = drop (size (drop at b)) (drop at b) in
       let i : IsPacket (take (size (drop at b)) (drop at b)) = first-packet (drop at b) w in
       let j : p ++ q ≡ drop at b = take-append-drop (size (drop at b)) (drop at b) in
-      some p q i j (rw e (subst (λ (x : List ℕ). Takes out c p (receiveCall c x out)) j (takes-packet out l c (g .ready) (g .boundary h) p q i))))
+      some p q i j (rw (x .call) (subst (λ (y : List ℕ). Takes out c p (receiveCall c y out)) j (takes-packet out (x .room) c (g .ready) between p q i))))
       none
 
   one-packet : (p q : List ℕ) → IsPacket p → p ++ q ≡ drop at b → Takes out c p r
@@ -81,7 +83,7 @@ module _
         boundary = λ _. t .boundary;
         state = g .state ∙ rw (← j, packets-cons p q i, d, t .state);
         acks = g .acks ∙ rw (← j, packets-cons p q i, d, t .state, acknowledges t, and-assoc);
-        left = g .left ∙ rw (← j, rest-cons p q i, d) (omega (arith, g .boundary h .received, t .boundary .received));
+        left = g .left ∙ rw (← j, rest-cons p q i, d) (omega (arith, between .received, t .boundary .received));
       }
 
   -- a call that completes a packet
@@ -95,7 +97,7 @@ module _
         omega (arith, sym (length-append p q) ∙ ap length j ∙ length-drop at b),
         rw k at (one-packet p q i j t),
       ))
-      (λ w. absurd (never-answers (sym (ap (λ (x : After). x .answer) (e ∙ takes-part out l c (g .ready) (g .boundary h) (drop at b) w)) ∙ a)))
+      (λ w. absurd (never-answers (sym (ap (λ (y : After). y .answer) (x .call ∙ takes-part out (x .room) c (g .ready) between (drop at b) w)) ∙ a)))
 
   -- a call that completes none
   pub going-end : ((n m : ℕ) → r .answer ≡ Answers n m → ⊥) → Going s b (r .controller) good (length b)
@@ -104,15 +106,15 @@ module _
       turn
       (λ p q i j t. absurd (a (length p) _ (t .answer)))
       (λ w.
-      let f = e ∙ takes-part out l c (g .ready) (g .boundary h) (drop at b) w in
-      let st : stateOf (r .controller) ≡ stateOf c = ap (λ (x : After). stateOf (x .controller)) f ∙ part-state c (drop at b) (g .ready) (g .boundary h) in
-      let n : r .controller .receiver .received ≡ c .receiver .received + length (drop at b) = ap (λ (x : After). x .controller .receiver .received) f in
+      let f = x .call ∙ takes-part out (x .room) c (g .ready) between (drop at b) w in
+      let st : stateOf (r .controller) ≡ stateOf c = ap (λ (y : After). stateOf (y .controller)) f ∙ part-state c (drop at b) (g .ready) between in
+      let n : r .controller .receiver .received ≡ c .receiver .received + length (drop at b) = ap (λ (y : After). y .controller .receiver .received) f in
       record {
-        ready = rw e (stays-in-rule c (drop at b) out (g .ready) l);
-        boundary = λ x. absurd (omega arith);
+        ready = rw (x .call) (stays-in-rule c (drop at b) out (g .ready) (x .room));
+        boundary = λ y. absurd (omega arith);
         state = g .state ∙ rw (packets-none (drop at b) w, none-left b, packets-nil, st);
         acks = g .acks ∙ rw (packets-none (drop at b) w, none-left b, packets-nil, st);
-        left = g .left ∙ rw (rest-none (drop at b) w, none-left b, rest-nil, n) (omega (arith, g .boundary h .received));
+        left = g .left ∙ rw (rest-none (drop at b) w, none-left b, rest-nil, n) (omega (arith, between .received));
       })
 
 -- where all bytes are played: the settings, and whether the play was clean

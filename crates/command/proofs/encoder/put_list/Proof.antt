@@ -53,7 +53,7 @@ room c =
       arith,
       c .before .loop .inv .1,
       c .before .loop .inv .2 ∙ list-size (take (c .before .loop .k) table) (a .s),
-      list-left table (c .before .loop .k) (c .loop-test .taken),
+      list-left table (c .before .loop .k) (omega (arith, c .loop-test .taken)),
       c .before .before .before .pre,
     )
 

@@ -10,7 +10,7 @@ use Rattle.command.proofs.endpoint.serve.Tie as tie
 returns-2 : tie.Need-returns-2
 unfolding receiveCall inRule
 returns-2 c =
-    let e = le-ltb _ _ (c .before .if1 .left) in
+    let e = le-ltb _ 64 (c .before .if1 .left) in
     let r = c .before .before .in-rule in
     rw (e, ← r .ensures, not-true (r .result) (c .if2 .taken)) (refl, refl, refl)
 
@@ -23,5 +23,5 @@ pub serve-spec : {M : Type 1} → statement M
 unfolding receiveCall
 serve-spec =
     tie.close
-    (tie.spec (λ c κs. search needs) (λ c. let e = lt-ltb _ _ (c .if1 .taken) in rw e (refl, refl, refl)) returns-2 advance-requires
+    (tie.spec (λ c κs. search needs) (λ c. let e = lt-ltb _ 64 (c .if1 .taken) in rw e (refl, refl, refl)) returns-2 advance-requires
     (λ c. search needs) (λ c. c .before .before .advance .ensures))

@@ -1,28 +1,26 @@
 -- `play` meets its contract. The loop's invariant: what is left of the bytes goes on from where the head is.
-use Prim.Native.Nat.{ℕ, _≤_, _<_, _-_, _+_}
+use Prim.Native.Nat.{ℕ, _≤_, _<_, _-_}
 use mathlib.Core.Path.{_≡_, refl, sym, ap, _∙_}
-use mathlib.Core.Bool.{true, _&&_}
+use mathlib.Core.Bool.{true}
 use mathlib.Core.List.{List, [], _∷_}
 use native.Mathlib.Omega.{arith}
-use lib.Dec.{eqb}
-use lib.ListN.{length, getD, take, drop, length-drop}
+use lib.ListN.{length, take, drop, length-drop}
 use lib.Seq.{take-all}
 use borrow.Author.Needs.{needs}
 use borrow.Author.Tests.{not-true, not-false}
 use denote.Ref.{now}
 use denote.Enum.Declared.{tagOf}
 use types.Run.{OneOf, miss}
-use Rattle.packet.specs.Packet.{writeResponse}
 use Rattle.packet.specs.Receiver.{fresh, zeros}
 use Rattle.command.specs.Rules.{settingsInRule}
 use Rattle.command.specs.Controller.{noTransfer}
-use Rattle.command.specs.Endpoint.{Answers, outcomeOf, After, receiveCall}
+use Rattle.command.specs.Endpoint.{Answers, outcomeOf, After}
 use Rattle.command.specs.Inner.{controllerOf}
 use Rattle.command.specs.declared.settings.Settings.{Settings}
 use Rattle.command.specs.declared.endpoint.Answer.{Answer}
 use Rattle.command.specs.declared.endpoint.Answer.the-variants.{Waiting, Answered, ShortOutput, OutOfRule}
 use Rattle.command.proofs.endpoint.Answer.{the-type}
-use Rattle.command.proofs.player.Turns.{Going, going-start, going-packet, going-end, going-done, ready-fresh, between-fresh}
+use Rattle.command.proofs.player.Turns.{Going, Turn, going-start, going-packet, going-end, going-done, ready-fresh, between-fresh}
 use Rattle.command.proofs.player.play.Statement.{statement}
 use Rattle.command.proofs.player.play.Tie as tie
 
@@ -46,32 +44,26 @@ served c =
       output = c .serve .last .1 .1 .1 .0;
     }
 
--- it is the receive call, on the bytes that are left
-called : (c : tie.After-serve Inv-loop μ-loop)
+-- it is the receive call on the bytes that are left
+turn : (c : tie.After-serve Inv-loop μ-loop)
     → let l = c .before .before .before .before .before in
-    served c ≡ receiveCall (controllerOf (l .loop .c) (l .loop .hold)) (drop (l .loop .at) (now (l .before .before .before .before .args .b))) (l .loop .out)
-called c =
+    let a = l .before .before .before .before .args in
+    Turn (a .s) (now (a .b)) (l .loop .out) (controllerOf (l .loop .c) (l .loop .hold)) (l .loop .good) (l .loop .at) (served c)
+turn c =
     let l = c .before .before .before .before .before in
     let b = now (l .before .before .before .before .args .b) in
     let w : take (length b - l .loop .at) (drop (l .loop .at) b) ≡ drop (l .loop .at) b =
     take-all (length b - l .loop .at) (drop (l .loop .at) b) (omega (arith, length-drop (l .loop .at) b)) in
-    rw (c .serve .ensures .0, c .serve .ensures .1, c .serve .ensures .2, w)
+    record {
+      going = l .loop .inv .2;
+      room = omega (arith, l .loop .inv .1);
+      left = c .before .before .before .before .loop-test .taken;
+      call = rw (c .serve .ensures .0, c .serve .ensures .1, c .serve .ensures .2, w);
+    }
 
 -- the output keeps its length
 out-length : (c : tie.After-serve Inv-loop μ-loop) → length (c .serve .last .1 .1 .1 .0) ≡ 64
 out-length c = omega (arith, c .serve .kept .1 .1 .1 .0, c .before .before .before .before .before .loop .inv .1)
-
--- a turn that completes a packet
-packet-turn : (c : tie.After-serve Inv-loop μ-loop) (n m : ℕ) → c .serve .result .answer ≡ Answered n m
-    → let l = c .before .before .before .before .before in
-    let a = l .before .before .before .before .args in
-    (1 ≤ n) × (l .loop .at + n ≤ length (now (a .b)))
-    × Going (a .s) (now (a .b)) (served c .controller) (l .loop .good && eqb (getD (served c .output) 0 0) writeResponse) (l .loop .at + n)
-packet-turn c n m e =
-    let l = c .before .before .before .before .before in
-    let a = l .before .before .before .before .args in
-    going-packet (a .s) (now (a .b)) (l .loop .out) (controllerOf (l .loop .c) (l .loop .hold)) (l .loop .good) (l .loop .at) (l .loop .inv .2) (omega (arith, l .loop .inv .1))
-    (c .before .before .before .before .loop-test .taken) (served c) (called c) n m (ap outcomeOf e)
 
 abbrev others : List ℕ
 others = 0 ∷ 2 ∷ 3 ∷ []
@@ -81,17 +73,6 @@ not-answered (Waiting k) h n m e = let z : _≡_ {A = ℕ} 0 1 = cc in omega ari
 not-answered (Answered k j) h n m e = absurd (miss others 1 tt h)
 not-answered ShortOutput h n m e = let z : _≡_ {A = ℕ} 0 1 = cc in omega arith
 not-answered OutOfRule h n m e = let z : _≡_ {A = ℕ} 0 1 = cc in omega arith
-
--- a turn that completes none
-end-turn : (c : tie.After-serve Inv-loop μ-loop) → OneOf others (tagOf the-type (c .serve .result .answer))
-    → let l = c .before .before .before .before .before in
-    let a = l .before .before .before .before .args in
-    Going (a .s) (now (a .b)) (served c .controller) (l .loop .good) (length (now (a .b)))
-end-turn c h =
-    let l = c .before .before .before .before .before in
-    let a = l .before .before .before .before .args in
-    going-end (a .s) (now (a .b)) (l .loop .out) (controllerOf (l .loop .c) (l .loop .hold)) (l .loop .good) (l .loop .at) (l .loop .inv .2) (omega (arith, l .loop .inv .1))
-    (c .before .before .before .before .loop-test .taken) (served c) (called c) (not-answered (c .serve .result .answer) h)
 
 -- the settings are in rule past the test
 ruled : (c : tie.Else1 Inv-loop μ-loop) → settingsInRule (c .before .before .before .args .s) ≡ true
@@ -119,21 +100,23 @@ add-at c =
     let k = c .before .before .before .before .before in
     let s = k .before .before .before .before .before .before .before .before .before in
     let n : length (now (s .args .b)) < 18446744073709551616 = search (needs, s .good .1) in
-    omega (arith, n, packet-turn k _ _ (c .before .answer .given .1) .1)
+    omega (arith, n, going-packet (turn k) _ _ (ap outcomeOf (c .before .answer .given .1)) .1)
 
 loop-less : tie.Need-loop-less Inv-loop μ-loop
-loop-less c = omega (arith, packet-turn (c .before .before .before .before .before) _ _ (c .before .answer .given .1) .0, packet-turn (c .before .before .before .before .before) _ _ (c .before .answer .given .1) .1)
+loop-less c =
+    let t = going-packet (turn (c .before .before .before .before .before)) _ _ (ap outcomeOf (c .before .answer .given .1)) in
+    omega (arith, t .0, t .1)
 
 loop-again : tie.Need-loop-again Inv-loop μ-loop
 loop-again c =
     let k = c .before .before .before .before .before in
-    let t = packet-turn k _ _ (c .before .answer .given .1) in
+    let t = going-packet (turn k) _ _ (ap outcomeOf (c .before .answer .given .1)) in
     (t .1, out-length k, t .2)
 
 loop-again-2 : tie.Need-loop-again-2 Inv-loop μ-loop
 loop-again-2 c =
     let k = c .before .before .before in
-    (omega arith, out-length k, end-turn k (c .match .keys2))
+    (omega arith, out-length k, going-end (turn k) (not-answered (k .serve .result .answer) (c .match .keys2)))
 
 returns-2 : tie.Need-returns-2 Inv-loop μ-loop
 returns-2 c =
