@@ -160,12 +160,11 @@ pub stays-in-rule : (c : Controller) (b out : List ℕ) → Ready c → 64 ≤ l
 unfolding receiverWaiting completed
 stays-in-rule c b out k l =
     by-ends c b out k l
-    (λ h. subst (λ (r : After). Ready (r .controller)) (sym (call-waits c b out k l h)) (ready-waiting c b k h))
+    (λ h. rw (call-waits c b out k l h) (ready-waiting c b k h))
     (λ h.
-    let n = missing (c .receiver) b in
     let w = with (c .receiver) (heldIn (c .transfer)) (take (missing (c .receiver) b - 1) b) in
-    subst (λ (r : After). Ready (r .controller)) (sym (call-answers c b out k l h))
-    (ready-carried c (completed (c .receiver) (heldIn (c .transfer)) b n) k
+    rw (call-answers c b out k l h)
+    (ready-carried c (completed (c .receiver) (heldIn (c .transfer)) b (missing (c .receiver) b)) k
     (made-between w (made-with (c .receiver) (heldIn (c .transfer)) (take (missing (c .receiver) b - 1) b) (k .made))) refl))
 
 -- The receive call over a stream.

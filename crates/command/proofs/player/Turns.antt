@@ -17,7 +17,7 @@ use Rattle.packet.proofs.ReceiverLaws.{Between}
 use Rattle.command.specs.Rules.{settingsInRule}
 use Rattle.command.specs.Controller.{noTransfer, transferInRule, packetInRule, inRule}
 use Rattle.command.specs.Endpoint.{Waits, Answers, After, receiveCall}
-use Rattle.command.specs.Player.{State, from, judgements, after, play, allAcknowledged, isNil, clean}
+use Rattle.command.specs.Player.{from, judgements, after, play, allAcknowledged, isNil, clean}
 use Rattle.command.specs.declared.settings.Settings.{Settings}
 use Rattle.command.specs.declared.controller.Controller.{Controller}
 use Rattle.command.proofs.transfer.Laws.{open-is}
@@ -129,21 +129,13 @@ going-done s b c good g =
     (rw st, rw (a, st, o, Bool·not-not (eqb (c .transfer .active) 0), nil-length (rest b) (c .receiver .received) (omega arith)))
 
 -- the start: nothing is played, on a fresh receiver with no transfer open
-pub going-start : (s : Settings) (b : List ℕ) (c : Controller) → Ready c → Between (c .receiver) → stateOf c ≡ from s → Going s b c true 0
-unfolding play
-going-start s b c k q e =
+pub going-start : (s : Settings) (b : List ℕ) → settingsInRule s ≡ true → Going s b (record { settings = s; transfer = noTransfer; receiver = fresh }) true 0
+unfolding play inRule transferInRule packetInRule zeros
+going-start s b r =
     record {
-      ready = k;
-      boundary = λ _. q;
-      state = ap (λ (a : State). after a (packets b)) (sym e);
-      acks = ap (λ (a : State). allAcknowledged (judgements a (packets b))) (sym e);
-      left = omega (arith, q .received);
+      ready = record { rule = rw r; made = record { header = refl; hold = length-replicate {A = ℕ} 1024 0; sum = omega arith } };
+      boundary = λ _. record { header = refl; sum = refl; received = refl };
+      state = refl;
+      acks = refl;
+      left = omega arith;
     }
-
--- a fresh receiver on settings in rule
-pub ready-fresh : (s : Settings) → settingsInRule s ≡ true → Ready (record { settings = s; transfer = noTransfer; receiver = fresh })
-unfolding inRule transferInRule packetInRule zeros
-ready-fresh s r = record { rule = rw r; made = record { header = refl; hold = length-replicate {A = ℕ} 1024 0; sum = omega arith } }
-
-pub between-fresh : Between fresh
-between-fresh = record { header = refl; sum = refl; received = refl }

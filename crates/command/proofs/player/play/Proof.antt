@@ -11,16 +11,14 @@ use borrow.Author.Tests.{not-true, not-false}
 use denote.Ref.{now}
 use denote.Enum.Declared.{tagOf}
 use types.Run.{OneOf, miss}
-use Rattle.packet.specs.Receiver.{fresh, zeros}
+use Rattle.packet.specs.Receiver.{zeros}
 use Rattle.command.specs.Rules.{settingsInRule}
-use Rattle.command.specs.Controller.{noTransfer}
 use Rattle.command.specs.Endpoint.{Answers, outcomeOf, After}
 use Rattle.command.specs.Inner.{controllerOf}
-use Rattle.command.specs.declared.settings.Settings.{Settings}
 use Rattle.command.specs.declared.endpoint.Answer.{Answer}
 use Rattle.command.specs.declared.endpoint.Answer.the-variants.{Waiting, Answered, ShortOutput, OutOfRule}
 use Rattle.command.proofs.endpoint.Answer.{the-type}
-use Rattle.command.proofs.player.Turns.{Going, Turn, going-start, going-packet, going-end, going-done, ready-fresh, between-fresh}
+use Rattle.command.proofs.player.Turns.{Going, Turn, going-start, going-packet, going-end, going-done}
 use Rattle.command.proofs.player.play.Statement.{statement}
 use Rattle.command.proofs.player.play.Tie as tie
 
@@ -29,11 +27,6 @@ Inv-loop b c₀ hold₀ out₀ good₀ at₀ c hold out good at = (at ≤ length
 
 abbrev μ-loop : tie.MeasureT-loop
 μ-loop b c₀ hold₀ out₀ good₀ at₀ c hold out good at = length b - at
-
--- a fresh receiver, before any byte
-begin : (s : Settings) (b : List ℕ) → settingsInRule s ≡ true → Going s b (record { settings = s; transfer = noTransfer; receiver = fresh }) true 0
-unfolding zeros
-begin s b r = going-start s b (record { settings = s; transfer = noTransfer; receiver = fresh }) (ready-fresh s r) between-fresh refl
 
 -- what the call in the loop answered and left
 abbrev served : tie.After-serve Inv-loop μ-loop → After
@@ -87,7 +80,7 @@ loop-holds : tie.Need-loop-holds Inv-loop μ-loop
 unfolding zeros
 loop-holds c =
     let a = c .before .before .before .args in
-    (omega arith, refl, begin (a .s) (now (a .b)) (ruled c))
+    (omega arith, refl, going-start (a .s) (now (a .b)) (ruled c))
 
 slice-aggregate-serve : tie.Need-slice-aggregate-serve Inv-loop μ-loop
 slice-aggregate-serve c = sym (c .before .before .before .before .loop .inv .1)
