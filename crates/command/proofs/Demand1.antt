@@ -1,33 +1,29 @@
 -- Demand 1: bad packets and bad calls.
 use Prim.Native.Nat.{ℕ, _<_, _≤_}
 use mathlib.Core.Path.{_≡_, refl, subst, _∙_}
-use mathlib.Core.Bool.{Bool, true, false, _&&_, _||_}
+use mathlib.Core.Bool.{Bool, true, false, _&&_}
 use mathlib.Core.List.{List, [], _∷_}
 use native.Mathlib.Omega.{arith}
-use lib.Dec.{eqb}
-use borrow.Author.Tests.{lt-ltb, le-ltb}
 use lib.ListN.{length}
-use Rattle.packet.specs.Packet.{packetOf, cmd1Of, cmd2Of, error, whole, last, hostRead}
-use Rattle.packet.proofs.Cases.{cond-cases, and-left, and-right}
-use Rattle.command.specs.Table.{commandOf, layout, sizeOf}
-use Rattle.command.specs.Rules.{allowed, blocked}
-use Rattle.command.specs.declared.settings.Settings.{Settings}
-use Rattle.command.specs.declared.table.Command.{Command}
-use Rattle.command.specs.declared.table.Found.{Found}
-use Rattle.command.specs.declared.table.Found.the-variants.{Known, Unknown}
-use Rattle.command.specs.Data.{splitAll}
+use borrow.Author.Tests.{lt-ltb, le-ltb}
+use Rattle.packet.specs.Packet.{packetOf, cmd1Of, cmd2Of, error, whole}
+use Rattle.packet.proofs.Cases.{and-left, and-right}
+use Rattle.command.specs.Table.{commandOf}
 use Rattle.command.specs.Transfer.{Transfer, Closed}
 use Rattle.command.specs.Faults.{Arrived, arrived, faults, anyFault, sizeFault, valueFault, modeFault, listIf, codesOf}
-use Rattle.command.specs.Judgement.{judgeWrite, judgeRead, judgeData, judge}
+use Rattle.command.specs.Judgement.{judge}
 use Rattle.command.specs.Carry.{settingsAfter}
 use Rattle.command.specs.Response.{response}
-use Rattle.command.specs.Player.{State, judged, next, judgements, after}
 use Rattle.command.specs.Controller.{inRule}
 use Rattle.command.specs.Endpoint.{refused, receiveCall}
+use Rattle.command.specs.Player.{State, judged, next, judgements, after}
+use Rattle.command.specs.declared.table.Found.{Found}
+use Rattle.command.specs.declared.settings.Settings.{Settings}
 use Rattle.command.specs.declared.faults.Codes.{Codes}
 use Rattle.command.specs.declared.judgement.Judgement.{Judgement}
 use Rattle.command.specs.declared.judgement.Judgement.the-variants.{Refuse, Hold, Write, Read}
 use Rattle.command.specs.declared.controller.Controller.{Controller}
+use Rattle.command.proofs.judgement.Laws.{judge-cases}
 
 -- Codes go out ascending, none twice.
 
@@ -71,35 +67,10 @@ IfRefused P (Hold c) = Unit {0}
 IfRefused P (Write v) = Unit {0}
 IfRefused P (Read c) = Unit {0}
 
-module _ (P : Codes → Type 0) (s : P sizeFault) (v : P valueFault) (m : P modeFault) where
-  refused-write : (c : Command) (mode : ℕ) (d : List ℕ) → IfRefused P (judgeWrite c mode d)
-  unfolding judgeWrite
-  refused-write c mode d =
-      cond-cases (IfRefused P) (eqb (length d) (sizeOf c))
-      (λ _.
-      cond-cases (IfRefused P) (allowed c (splitAll (layout c) d))
-      (λ _. cond-cases (IfRefused P) (blocked c (splitAll (layout c) d) mode) (λ _. m) (λ _. tt))
-      (λ _. v))
-      (λ _. s)
-
-  refused-data : (f : Found) (mode type flags : ℕ) (d : List ℕ) → IfRefused P (judgeData f mode type flags d)
-  unfolding judgeData judgeRead
-  refused-data Unknown mode type flags d = s
-  refused-data (Known c) mode type flags d =
-      cond-cases (IfRefused P) (eqb flags whole || eqb flags last)
-      (λ _.
-      cond-cases (IfRefused P) (eqb type hostRead)
-      (λ _. cond-cases (IfRefused P) (eqb (length d) 0) (λ _. tt) (λ _. s))
-      (λ _. refused-write c mode d))
-      (λ _. tt)
-
 called : (mode : ℕ) (t : Transfer) (p : Arrived) → IfRefused (Called (commandOf (p .cmd1) (p .cmd2)) t p) (judge mode t p)
-unfolding judge
 called mode t p =
-    let f = commandOf (p .cmd1) (p .cmd2) in
-    cond-cases (IfRefused (Called (commandOf (p .cmd1) (p .cmd2)) t p)) (anyFault (faults f t p))
-    (λ e. FirstGroup e refl)
-    (λ e. refused-data (Called (commandOf (p .cmd1) (p .cmd2)) t p) (Size e refl) (Value e refl) (Mode e refl) f mode (p .type) (p .flags) _)
+    judge-cases (IfRefused (Called (commandOf (p .cmd1) (p .cmd2)) t p)) mode t p (λ e. FirstGroup e refl)
+    (λ e. record { size = Size e refl; value = Value e refl; blocks = Mode e refl; hold = λ _. tt; read = λ _. tt; write = λ _ _ _ _ _. tt })
 
 -- what a packet that draws an error gets and leaves
 pub record Bad (a : State) (p : List ℕ) (k : Codes) : Type 0 where

@@ -1,3 +1,2 @@
 -- The laws of judgement.
 pub mod Laws
-pub mod Steps

@@ -1,15 +1,12 @@
--- How a complete packet is judged, what a judgement changes, and the response that it draws.
-use Prim.Native.Nat.{_+_}
+-- What a judgement changes: the settings and the open transfer.
 use mathlib.Core.List.{_++_}
 use Rattle.command.specs.Settings.{store}
 use Rattle.command.specs.Value.{commandIn, valuesIn}
+use Rattle.command.specs.Transfer.{Transfer, Closed, Opened, held}
+use Rattle.command.specs.Faults.{Arrived}
 use Rattle.command.specs.declared.settings.Settings.{Settings}
 use Rattle.command.specs.declared.judgement.Judgement.{Judgement}
 use Rattle.command.specs.declared.judgement.Judgement.the-variants.{Refuse, Hold, Write, Read}
-use Rattle.command.specs.Transfer.{Transfer, Closed, Opened, held}
-use Rattle.command.specs.Faults.{Arrived}
-
--- What a judgement changes.
 
 -- a write that is carried out stores its data; nothing else changes a setting
 abbrev pub settingsAfter : Settings → Judgement → Settings

@@ -1,21 +1,18 @@
 -- The receive call: when it refuses, and what it answers and leaves.
 use Prim.Native.Nat.{ℕ, _+_}
-use mathlib.Core.Bool.{Bool, true, cond}
+use mathlib.Core.Bool.{cond}
 use mathlib.Core.List.{List}
 use lib.Dec.{ltb}
 use lib.ListN.{length}
 use Rattle.packet.specs.Packet.{payloadLength}
 use Rattle.packet.specs.Receiver.{Received, receiving}
 use Rattle.packet.specs.Writer.{written}
-use Rattle.packet.specs.declared.receiver.Receiver.{Receiver}
 use Rattle.command.specs.Faults.{Arrived}
 use Rattle.command.specs.Judgement.{judge}
 use Rattle.command.specs.Carry.{settingsAfter}
 use Rattle.command.specs.Response.{response}
 use Rattle.command.specs.Controller.{heldIn, transferIn, packetIn, transferStateAfter, inRule}
-use Rattle.command.specs.declared.settings.Settings.{Settings}
 use Rattle.command.specs.declared.judgement.Judgement.{Judgement}
-use Rattle.command.specs.declared.transfer.TransferState.{TransferState}
 use Rattle.command.specs.declared.controller.Controller.{Controller}
 use Rattle.command.specs.declared.endpoint.Answer.{Answer}
 use Rattle.command.specs.declared.endpoint.Answer.the-variants.{Waiting, Answered, ShortOutput, OutOfRule}
@@ -32,18 +29,19 @@ outcomeOf OutOfRule = Refuses 3
 outcomeOf (Waiting n) = Waits n
 outcomeOf (Answered n m) = Answers n m
 
--- how a complete packet is judged, by its header, whether its checksum was right, and the hold; and what it draws
-abbrev pub judgedOn : Settings → TransferState → List ℕ → Bool → List ℕ → Judgement
-judgedOn s t header right hold = judge (s .mode) (transferIn t hold) (packetIn (heldIn t) header right hold)
+-- the bytes taken by the receiver
+abbrev pub takenBy : Controller → List ℕ → Received
+takenBy c input = receiving (c .receiver) (heldIn (c .transfer)) input
 
-abbrev pub drawnOn : Settings → TransferState → List ℕ → Bool → List ℕ → List ℕ
-drawnOn s t header right hold = response s (packetIn (heldIn t) header right hold) (judgedOn s t header right hold)
-
+-- the packet that is complete, n bytes having been held before it; how it is judged; and what it draws
 abbrev pub arrivedIn : ℕ → Received → Arrived
 arrivedIn n t = packetIn n (t .receiver .header) (t .right) (t .receiver .hold)
 
 unfoldable pub judgedIn : Controller → Received → Judgement
-judgedIn c t = judgedOn (c .settings) (c .transfer) (t .receiver .header) (t .right) (t .receiver .hold)
+judgedIn c t = judge (c .settings .mode) (transferIn (c .transfer) (t .receiver .hold)) (arrivedIn (heldIn (c .transfer)) t)
+
+unfoldable pub responseIn : Controller → Received → List ℕ
+responseIn c t = response (c .settings) (arrivedIn (heldIn (c .transfer)) t) (judgedIn c t)
 
 -- the judgement carried out
 abbrev pub carriedOut : Controller → Received → Judgement → Controller
@@ -53,18 +51,6 @@ carriedOut c t j =
       transfer = transferStateAfter (c .transfer) (heldIn (c .transfer) + payloadLength (t .receiver .header)) j;
       receiver = t .receiver;
     }
-
--- the response to the complete packet
-unfoldable pub responseIn : Controller → Received → List ℕ
-responseIn c t = response (c .settings) (arrivedIn (heldIn (c .transfer)) t) (judgedIn c t)
-
--- the bytes taken by the receiver
-abbrev pub takenBy : Controller → List ℕ → Received
-takenBy c input = receiving (c .receiver) (heldIn (c .transfer)) input
-
--- what the receiver answers when a packet is complete
-abbrev pub completeBy : ℕ → Bool → Receiver → Received
-completeBy n right r = record { taken = n; complete = true; right = right; receiver = r }
 
 -- The receive call: the answer, the controller afterwards, and the output.
 pub record After : Type 0 where
@@ -94,11 +80,7 @@ answered c t out =
       output = written (responseIn c t) out;
     }
 
--- a packet that is complete in the receiver, its checksum right or not
-abbrev pub settled : Controller → Bool → ℕ → List ℕ → After
-settled c right n out = answered c (completeBy n right (c .receiver)) out
-
--- tested in the order 1, 3
+-- the call: it refuses, tested in the order 1, 3, or takes bytes until the input ends or one packet is complete
 unfoldable pub receiveCall : Controller → List ℕ → List ℕ → After
 receiveCall c input out =
     cond (ltb (length out) 64) (refused 1 c out)

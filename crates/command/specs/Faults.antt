@@ -1,4 +1,4 @@
--- How a complete packet is judged, what a judgement changes, and the response that it draws.
+-- The first group of faults of a complete packet, the codes that come alone, and the bytes that report them.
 use Prim.Native.Nat.{ℕ, _+_}
 use mathlib.Core.Bool.{Bool, true, false, cond, not, _&&_, _||_}
 use mathlib.Core.List.{List, [], _∷_}
@@ -6,9 +6,9 @@ use lib.Dec.{eqb, ltb}
 use lib.ListN.{length}
 use Rattle.packet.specs.Packet.{typeOf, cmd1Of, cmd2Of, flagsOf, payloadLength, payload, rightSum, hostWrite, hostRead, whole, beginning, intermediate, last}
 use Rattle.command.specs.Table.{isKnown, canRead}
+use Rattle.command.specs.Transfer.{Transfer, isOpen, held, openFor}
 use Rattle.command.specs.declared.table.Found.{Found}
 use Rattle.command.specs.declared.faults.Codes.{Codes}
-use Rattle.command.specs.Transfer.{Transfer, isOpen, held, openFor}
 
 -- a complete packet, as far as it is judged
 pub record Arrived : Type 0 where
@@ -73,7 +73,7 @@ faults c t p = faultsOf c (isOpen t) (openFor c t) (length (held t)) (p .type) (
 unfoldable pub anyFault : Codes → Bool
 anyFault k = k .command || k .length || k .checksum || k .order
 
--- Later codes come alone: 0A, 03, 07.
+-- Only with none of these: 0A, then 03, then 07, each alone.
 
 abbrev pub sizeFault : Codes
 sizeFault = record { command = false; value = false; length = false; mode = false; checksum = false; size = true; order = false }

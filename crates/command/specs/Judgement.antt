@@ -1,21 +1,21 @@
--- How a complete packet is judged, what a judgement changes, and the response that it draws.
-use Prim.Native.Nat.{ℕ, _+_}
-use mathlib.Core.Bool.{cond, _||_}
+-- How a complete packet is judged.
+use Prim.Native.Nat.{ℕ}
+use mathlib.Core.Bool.{Bool, cond, _||_}
 use mathlib.Core.List.{List, _++_}
 use lib.Dec.{eqb}
 use lib.ListN.{length}
 use Rattle.packet.specs.Packet.{hostRead, whole, last}
-use Rattle.command.specs.Data.{splitAll}
 use Rattle.command.specs.Table.{commandOf, layout, sizeOf}
 use Rattle.command.specs.Rules.{allowed, blocked}
+use Rattle.command.specs.Data.{splitAll}
 use Rattle.command.specs.Value.{valueFrom}
+use Rattle.command.specs.Transfer.{Transfer, held}
+use Rattle.command.specs.Faults.{Arrived, faults, anyFault, sizeFault, valueFault, modeFault}
 use Rattle.command.specs.declared.table.Command.{Command}
 use Rattle.command.specs.declared.table.Found.{Found}
 use Rattle.command.specs.declared.table.Found.the-variants.{Known, Unknown}
 use Rattle.command.specs.declared.judgement.Judgement.{Judgement}
 use Rattle.command.specs.declared.judgement.Judgement.the-variants.{Refuse, Hold, Write, Read}
-use Rattle.command.specs.Transfer.{Transfer, held}
-use Rattle.command.specs.Faults.{Arrived, faults, anyFault, sizeFault, valueFault, modeFault}
 
 -- a write of these data: 0A if they haven't the command's size, then 03 if a value isn't allowed, then 07 for run 1 outside mode 4
 unfoldable pub judgeWrite : Command → ℕ → List ℕ → Judgement
@@ -30,11 +30,15 @@ judgeWrite c mode d =
 unfoldable pub judgeRead : Command → ℕ → Judgement
 judgeRead c n = cond (eqb n 0) (Read c) (Refuse sizeFault)
 
--- with none of the first group, d being the joined data; only for flags 00 or 03 are they complete (an unknown command has drawn 02)
+-- flags 00 or 03
+abbrev pub completes : ℕ → Bool
+completes f = eqb f whole || eqb f last
+
+-- only with none of the first group, and only for flags 00 or 03, d being the joined data (an unknown command has drawn 02)
 unfoldable pub judgeData : Found → ℕ → ℕ → ℕ → List ℕ → Judgement
 judgeData Unknown mode type flags d = Refuse sizeFault
 judgeData (Known c) mode type flags d =
-    cond (eqb flags whole || eqb flags last) (cond (eqb type hostRead) (judgeRead c (length d)) (judgeWrite c mode d)) (Hold c)
+    cond (completes flags) (cond (eqb type hostRead) (judgeRead c (length d)) (judgeWrite c mode d)) (Hold c)
 
 -- how a complete packet is judged in a display mode, with a transfer open or none
 unfoldable pub judge : ℕ → Transfer → Arrived → Judgement

@@ -10,8 +10,8 @@ pub mod Faults
 pub mod Judgement
 pub mod Carry
 pub mod Response
-pub mod Player
 pub mod Controller
 pub mod Endpoint
+pub mod Player
 pub mod Encoder
 pub mod Inner

@@ -1,8 +1,9 @@
--- Playing bytes from given settings.
+-- Playing bytes from given settings, and the play call.
 use Prim.Native.Nat.{ℕ}
 use mathlib.Core.Bool.{Bool, true, false, not, _&&_, cond}
 use mathlib.Core.List.{List, [], _∷_}
 use Rattle.packet.specs.Stream.{packets, rest}
+use Rattle.command.specs.Rules.{settingsInRule}
 use Rattle.command.specs.Transfer.{Transfer, Closed, isOpen}
 use Rattle.command.specs.Faults.{arrived}
 use Rattle.command.specs.Judgement.{judge}
@@ -10,7 +11,6 @@ use Rattle.command.specs.Carry.{settingsAfter, transferAfter}
 use Rattle.command.specs.Response.{acknowledged, response}
 use Rattle.command.specs.declared.settings.Settings.{Settings}
 use Rattle.command.specs.declared.judgement.Judgement.{Judgement}
-use Rattle.command.specs.Rules.{settingsInRule}
 
 -- the settings, and one open transfer or none
 pub record State : Type 0 where
@@ -63,10 +63,9 @@ isNil (x ∷ xs) = false
 unfoldable pub clean : Settings → List ℕ → Bool
 clean s b = allAcknowledged (judgements (from s) (packets b)) && not (isOpen (play s b .transfer)) && isNil (rest b)
 
--- where the play ends
+-- The play call: settings out of rule are not played. They stay, and nothing is clean.
 abbrev pub endSettings : Settings → List ℕ → Settings
 endSettings s b = cond (settingsInRule s) (play s b .settings) s
 
--- each packet was acknowledged, and nothing was left half sent
 abbrev pub endClean : Settings → List ℕ → Bool
 endClean s b = settingsInRule s && clean s b

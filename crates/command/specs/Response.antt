@@ -1,13 +1,13 @@
--- How a complete packet is judged, what a judgement changes, and the response that it draws.
+-- The response that a judgement draws.
 use Prim.Native.Nat.{ℕ}
 use mathlib.Core.Bool.{Bool, true, false}
 use mathlib.Core.List.{List, []}
 use Rattle.packet.specs.Packet.{packetOf, error, writeResponse, readResponse, whole}
 use Rattle.command.specs.Value.{dataOf}
+use Rattle.command.specs.Faults.{Arrived, codesOf}
 use Rattle.command.specs.declared.settings.Settings.{Settings}
 use Rattle.command.specs.declared.judgement.Judgement.{Judgement}
 use Rattle.command.specs.declared.judgement.Judgement.the-variants.{Refuse, Hold, Write, Read}
-use Rattle.command.specs.Faults.{Arrived, codesOf}
 
 -- a packet is acknowledged when it draws a write response
 abbrev pub acknowledged : Judgement → Bool

@@ -1,4 +1,4 @@
--- How a complete packet is judged, what a judgement changes, and the response that it draws.
+-- The open transfer of a head.
 use Prim.Native.Nat.{ℕ}
 use mathlib.Core.Bool.{Bool, true, false}
 use mathlib.Core.List.{List, []}
@@ -12,6 +12,7 @@ pub data Transfer : Type 0 where
   Closed : Transfer
   Opened : Command → List ℕ → Transfer
 
+-- a transfer is open; and its data
 abbrev pub isOpen : Transfer → Bool
 isOpen Closed = false
 isOpen (Opened c d) = true

@@ -1,16 +1,18 @@
 // Carrying out a judgement: what it changes.
 use crate::judgement::Judgement;
 use crate::settings::Settings;
+use crate::settings::stored;
 use crate::transfer::TransferState;
 ghost use mathlib.Core.Path.{_≡_};
 ghost use Rattle.command.specs.Controller.{transferStateAfter};
 ghost use Rattle.command.specs.Carry.{settingsAfter as settingsAfterOf};
 
+// The settings afterwards: only a write changes them.
 pub(crate) fn settings_after(s: Settings, j: Judgement) -> Settings
     ensures { λ r. ⌜ r ≡ settingsAfterOf s j ⌝ }
 {
     match j {
-        Judgement::Write(v) => crate::settings::stored(s, v),
+        Judgement::Write(v) => stored(s, v),
         _ => s,
     }
 }

@@ -32,7 +32,7 @@ fn packet_in_rule(header: [u8; 6], received: usize) -> bool
 }
 
 impl Controller {
-    pub const FRESH: Controller = Controller {
+    pub(crate) const FRESH: Controller = Controller {
         settings: Settings::FACTORY,
         transfer: TransferState::NONE,
         receiver: Receiver::FRESH,
@@ -51,8 +51,8 @@ pub(crate) fn in_rule(p: Parts) -> bool
     ensures { λ r. ⌜ r ≡ partsInRule p ⌝ }
 {
     let header = p.header;
-    let a = settings_in_rule(p.settings);
-    let b = p.transfer.in_rule();
-    let c = packet_in_rule(header, p.received);
-    a & b & c
+    let settings = settings_in_rule(p.settings);
+    let transfer = p.transfer.in_rule();
+    let unfinished = packet_in_rule(header, p.received);
+    settings & transfer & unfinished
 }

@@ -1,10 +1,12 @@
-// What a receive call answers.
+// The receive call: it takes bytes until the input ends or one packet is complete, and answers that
+// packet.
 use crate::carry::settings_after;
 use crate::carry::transfer_after;
 use crate::controller::Controller;
 use crate::controller::Parts;
 use crate::controller::in_rule;
 use crate::judgement::judge;
+use crate::output::OUTPUT;
 use crate::response::respond;
 use packet::Receiver;
 ghost use mathlib.Core.Path.{_≡_};
@@ -12,9 +14,10 @@ ghost use mathlib.Core.Bool.{true};
 ghost use Prim.Native.Nat.{_≤_};
 ghost use lib.ListN.{length};
 ghost use Rattle.command.specs.Controller.{transferInRule};
-ghost use Rattle.command.specs.Inner.{controllerOf, partsInRule};
-ghost use Rattle.command.specs.Endpoint.{outcomeOf, settled, receiveCall};
+ghost use Rattle.command.specs.Inner.{controllerOf, partsInRule, settled};
+ghost use Rattle.command.specs.Endpoint.{outcomeOf, receiveCall};
 
+// What a receive call answers.
 pub enum Answer {
     // The input ended before a packet did; all of it was taken.
     Waiting(usize),
@@ -38,7 +41,7 @@ pub(crate) struct Served {
 }
 
 // A complete packet is judged, the judgement carried out and the response written.
-fn settle(p: Parts, right: bool, taken: usize, hold: &[u8], out: &mut [u8]) -> Served
+fn settle(mut p: Parts, right: bool, taken: usize, hold: &[u8], out: &mut [u8]) -> Served
     requires { ⌜ (transferInRule (p .transfer) ≡ true) × (length (now hold) ≡ 1024) × (64 ≤ length (now out)) ⌝ }
     ensures { λ r. ⌜ (outcomeOf (r .answer) ≡ settled (controllerOf p (now (hold .entry))) right taken (now (out .entry)) .answer)
         × (controllerOf (r .parts) (now (hold .entry)) ≡ settled (controllerOf p (now (hold .entry))) right taken (now (out .entry)) .controller)
@@ -48,18 +51,11 @@ fn settle(p: Parts, right: bool, taken: usize, hold: &[u8], out: &mut [u8]) -> S
     let j = judge(p.settings.mode, p.transfer, header, right, hold);
     let length = respond(out, p.settings, header[1], header[2], j);
     let n = p.transfer.held() + packet::word(header[4], header[5]);
+    p.settings = settings_after(p.settings, j);
+    p.transfer = transfer_after(p.transfer, n, j);
     Served {
-        parts: Parts {
-            settings: settings_after(p.settings, j),
-            transfer: transfer_after(p.transfer, n, j),
-            header: header,
-            sum: p.sum,
-            received: p.received,
-        },
-        answer: Answer::Answered {
-            taken: taken,
-            length: length,
-        },
+        parts: p,
+        answer: Answer::Answered { taken, length },
     }
 }
 
@@ -92,7 +88,7 @@ pub(crate) fn serve(p: Parts, hold: &mut [u8; 1024], input: &[u8], out: &mut [u8
         × (now (out .exit) ≡ receiveCall (controllerOf p (now (hold .entry))) (now (input .entry)) (now (out .entry)) .output) ⌝ }
 {
     let ruled = in_rule(p);
-    if out.len() < 64 {
+    if out.len() < OUTPUT {
         return Served {
             parts: p,
             answer: Answer::ShortOutput,
@@ -113,7 +109,7 @@ pub struct Step {
     pub answer: Answer,
 }
 
-// Takes bytes until the input ends or one packet is complete.
+// The call on a controller by value.
 pub fn receive(c: Controller, input: &[u8], out: &mut [u8]) -> Step
     ensures { λ r. ⌜ (outcomeOf (r .answer) ≡ receiveCall c (now (input .entry)) (now (out .entry)) .answer)
         × (r .controller ≡ receiveCall c (now (input .entry)) (now (out .entry)) .controller)
@@ -124,9 +120,9 @@ pub fn receive(c: Controller, input: &[u8], out: &mut [u8]) -> Step
     let header = c.receiver.header;
     let mut hold = c.receiver.hold;
     let p = Parts {
-        settings: settings,
-        transfer: transfer,
-        header: header,
+        settings,
+        transfer,
+        header,
         sum: c.receiver.sum,
         received: c.receiver.received,
     };
@@ -137,15 +133,15 @@ pub fn receive(c: Controller, input: &[u8], out: &mut [u8]) -> Step
     let answer = s.answer;
     Step {
         controller: Controller {
-            settings: settings,
-            transfer: transfer,
+            settings,
+            transfer,
             receiver: Receiver {
-                header: header,
+                header,
                 sum: s.parts.sum,
                 received: s.parts.received,
-                hold: hold,
+                hold,
             },
         },
-        answer: answer,
+        answer,
     }
 }

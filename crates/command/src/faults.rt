@@ -1,84 +1,14 @@
-// The first group of faults: 02, 04, 09 and 0B, which are reported together.
+// The error codes, and the first group of faults: 02, 04, 09 and 0B, which are reported together.
 use crate::table::Found;
+use crate::transfer::HOLD;
 use crate::transfer::TransferState;
 ghost use mathlib.Core.Path.{_≡_};
-ghost use Prim.Native.Nat.{_+_};
-ghost use lib.Dec.{ltb};
+ghost use mathlib.Core.Bool.{true};
+ghost use Prim.Native.Nat.{_≤_, _<_};
 ghost use Rattle.packet.specs.Packet.{typeOf, flagsOf, payloadLength};
 ghost use Rattle.command.specs.Inner.{isOpenIn, openForIn};
-ghost use Rattle.command.specs.Controller.{heldIn};
+ghost use Rattle.command.specs.Controller.{heldIn, transferInRule};
 ghost use Rattle.command.specs.Faults.{faultsOf, wrongCommand, tooLong, wrongOrder, anyFault};
-
-// 02
-fn wrong_command(found: Found, kind: u8) -> bool
-    ensures { λ r. ⌜ r ≡ wrongCommand found kind ⌝ }
-{
-    let known = found.known();
-    let readable = found.readable();
-    !((kind == packet::HOST_WRITE) | (kind == packet::HOST_READ))
-        | !known
-        | ((kind == packet::HOST_READ) & !readable)
-}
-
-// So many bytes together are over 1,024.
-fn over_hold(held: usize, size: usize) -> bool
-    ensures { λ r. ⌜ r ≡ ltb 1024 (held + size) ⌝ }
-{
-    if 1024 < held {
-        return true;
-    }
-    1024 - held < size
-}
-
-// 04
-fn too_long(active: bool, held: usize, flags: u8, size: usize) -> bool
-    ensures { λ r. ⌜ r ≡ tooLong active held flags size ⌝ }
-{
-    let over = over_hold(held, size);
-    (1024 < size) | (((flags == packet::INTERMEDIATE) | (flags == packet::LAST)) & active & over)
-}
-
-// 0B
-fn wrong_order(active: bool, ours: bool, kind: u8, flags: u8) -> bool
-    ensures { λ r. ⌜ r ≡ wrongOrder active ours kind flags ⌝ }
-{
-    (3 < flags)
-        | (!(kind == packet::HOST_WRITE) & !(flags == packet::WHOLE))
-        | (((flags == packet::INTERMEDIATE) | (flags == packet::LAST)) & !ours)
-        | (((flags == packet::WHOLE) | (flags == packet::BEGINNING)) & active)
-}
-
-// A transfer is open for this command.
-fn open_for(found: Found, t: TransferState) -> bool
-    ensures { λ r. ⌜ r ≡ openForIn found t ⌝ }
-{
-    let Found::Known(c) = found else {
-        return false;
-    };
-    let code = c.code();
-    !(t.active == 0) & ((t.cmd1 == code.cmd1) & (t.cmd2 == code.cmd2))
-}
-
-// The first group of faults, every one that holds.
-pub(crate) fn faults(found: Found, t: TransferState, header: [u8; 6], right: bool) -> Codes
-    ensures { λ r. ⌜ r ≡ faultsOf found (isOpenIn t) (openForIn found t) (heldIn t) (typeOf header) (flagsOf header) (payloadLength header) right ⌝ }
-{
-    let kind = header[0];
-    let flags = header[3];
-    let size = packet::word(header[4], header[5]);
-    let active = !(t.active == 0);
-    let ours = open_for(found, t);
-    let held = t.held();
-    Codes {
-        command: wrong_command(found, kind),
-        value: false,
-        length: too_long(active, held, flags, size),
-        mode: false,
-        checksum: !right,
-        size: false,
-        order: wrong_order(active, ours, kind, flags),
-    }
-}
 
 // The error codes: which of them hold.
 pub(crate) struct Codes {
@@ -100,7 +30,7 @@ pub(crate) struct Codes {
 
 impl Codes {
     // 0A alone.
-    pub const SIZE: Codes = Codes {
+    pub(crate) const SIZE: Codes = Codes {
         command: false,
         value: false,
         length: false,
@@ -111,7 +41,7 @@ impl Codes {
     };
 
     // 03 alone.
-    pub const VALUE: Codes = Codes {
+    pub(crate) const VALUE: Codes = Codes {
         command: false,
         value: true,
         length: false,
@@ -122,7 +52,7 @@ impl Codes {
     };
 
     // 07 alone.
-    pub const MODE: Codes = Codes {
+    pub(crate) const MODE: Codes = Codes {
         command: false,
         value: false,
         length: false,
@@ -133,9 +63,74 @@ impl Codes {
     };
 
     // A fault of the first group holds.
-    pub fn any(self) -> bool
+    pub(crate) fn any(self) -> bool
         ensures { λ r. ⌜ r ≡ anyFault self ⌝ }
     {
         self.command | self.length | self.checksum | self.order
+    }
+}
+
+// 02: the type is neither write nor read, the command is not in the table, or it cannot be read.
+fn wrong_command(found: Found, kind: u8) -> bool
+    ensures { λ r. ⌜ r ≡ wrongCommand found kind ⌝ }
+{
+    let known = found.known();
+    let readable = found.readable();
+    !((kind == packet::HOST_WRITE) | (kind == packet::HOST_READ))
+        | !known
+        | ((kind == packet::HOST_READ) & !readable)
+}
+
+// 04: the payload alone, or with the bytes that are held, is more than the hold has room for.
+fn too_long(active: bool, held: usize, flags: u8, size: usize) -> bool
+    requires { ⌜ (held ≤ 1024) × (size < 65536) ⌝ }
+    ensures { λ r. ⌜ r ≡ tooLong active held flags size ⌝ }
+{
+    (HOLD < size)
+        | (((flags == packet::INTERMEDIATE) | (flags == packet::LAST))
+            & active
+            & (HOLD < held + size))
+}
+
+// 0B: the flags do not go with the type or with the open transfer.
+fn wrong_order(active: bool, ours: bool, kind: u8, flags: u8) -> bool
+    ensures { λ r. ⌜ r ≡ wrongOrder active ours kind flags ⌝ }
+{
+    (packet::LAST < flags)
+        | ((kind != packet::HOST_WRITE) & (flags != packet::WHOLE))
+        | (((flags == packet::INTERMEDIATE) | (flags == packet::LAST)) & !ours)
+        | (((flags == packet::WHOLE) | (flags == packet::BEGINNING)) & active)
+}
+
+// A transfer is open for this command.
+fn open_for(found: Found, t: TransferState) -> bool
+    ensures { λ r. ⌜ r ≡ openForIn found t ⌝ }
+{
+    let Found::Known(c) = found else {
+        return false;
+    };
+    let code = c.code();
+    (t.active != 0) & ((t.cmd1 == code.cmd1) & (t.cmd2 == code.cmd2))
+}
+
+// The first group of faults, every one that holds.
+pub(crate) fn faults(found: Found, t: TransferState, header: [u8; 6], right: bool) -> Codes
+    requires { ⌜ transferInRule t ≡ true ⌝ }
+    ensures { λ r. ⌜ r ≡ faultsOf found (isOpenIn t) (openForIn found t) (heldIn t) (typeOf header) (flagsOf header) (payloadLength header) right ⌝ }
+{
+    let kind = header[0];
+    let flags = header[3];
+    let size = packet::word(header[4], header[5]);
+    let active = t.active != 0;
+    let ours = open_for(found, t);
+    let held = t.held();
+    Codes {
+        command: wrong_command(found, kind),
+        value: false,
+        length: too_long(active, held, flags, size),
+        mode: false,
+        checksum: !right,
+        size: false,
+        order: wrong_order(active, ours, kind, flags),
     }
 }

@@ -1,5 +1,5 @@
-// The error codes and the judgement of a complete packet. The judgement is data: finding it and carrying
-// it out are other steps.
+// How a complete packet is judged. The judgement is data: finding it and carrying it out are other
+// steps.
 use crate::faults::Codes;
 use crate::faults::faults;
 use crate::rules::allowed;
@@ -55,7 +55,7 @@ fn judge_read(c: Command, n: usize) -> Judgement
 }
 
 // With no fault of the first group: only for flags 00 or 03 are the data complete.
-pub(crate) fn judge_data(found: Found, mode: u8, header: [u8; 6], d: &[u8]) -> Judgement
+fn judge_data(found: Found, mode: u8, header: [u8; 6], d: &[u8]) -> Judgement
     ensures { λ r. ⌜ r ≡ judgeDataOf found mode (typeOf header) (flagsOf header) (now (d .entry)) ⌝ }
 {
     let Found::Known(c) = found else {
@@ -73,7 +73,7 @@ pub(crate) fn judge_data(found: Found, mode: u8, header: [u8; 6], d: &[u8]) -> J
 }
 
 // A complete packet: its header, whether its checksum was right, and the hold, in which its
-// payload stands behind the bytes that are held.
+// payload stands after the bytes that are held.
 pub(crate) fn judge(
     mode: u8,
     t: TransferState,

@@ -1,20 +1,31 @@
-// The crate command.
-mod carry;
-mod controller;
+// The command endpoint of a projector head, over the crate packet: the nine commands and their rules,
+// how a complete packet is judged, what it changes and the response it draws, and the calls that
+// receive, play and encode packets. Every call answers on every input and controller.
+
+// The commands: the table, the settings, which values are allowed, and a command's data as bytes
+// (data) and as values (value).
 mod data;
-mod encoder;
-mod endpoint;
-mod faults;
-mod judgement;
-mod output;
-mod player;
-mod response;
 mod rules;
 mod settings;
 mod table;
-mod transfer;
 mod value;
 
+// One complete packet: the open transfer, the first group of faults, the judgement, carrying it out,
+// and the response, which goes to a lent output.
+mod carry;
+mod faults;
+mod judgement;
+mod output;
+mod response;
+mod transfer;
+
+// The head, and the calls: receive, play, encode and the standard list.
+mod controller;
+mod encoder;
+mod endpoint;
+mod player;
+
+// The head and its calls.
 pub use controller::Controller;
 pub use encoder::Encoded;
 pub use encoder::encode;
@@ -24,6 +35,9 @@ pub use endpoint::Step;
 pub use endpoint::receive;
 pub use player::Played;
 pub use player::play;
+pub use transfer::TransferState;
+
+// The commands and their values.
 pub use settings::DisplaySetting;
 pub use settings::Drive;
 pub use settings::LedCurrent;
@@ -36,5 +50,4 @@ pub use settings::VideoMode;
 pub use settings::value_of;
 pub use table::Command;
 pub use table::Found;
-pub use transfer::TransferState;
 pub use value::Value;

@@ -2,8 +2,10 @@
 use crate::controller::Parts;
 use crate::endpoint::Answer;
 use crate::endpoint::serve;
+use crate::output::OUTPUT;
 use crate::rules::settings_in_rule;
 use crate::settings::Settings;
+use crate::transfer::HOLD;
 use crate::transfer::TransferState;
 ghost use mathlib.Core.Path.{_≡_};
 ghost use Rattle.command.specs.Player.{endSettings, endClean};
@@ -32,8 +34,8 @@ pub fn play(s: Settings, b: &[u8]) -> Played
         sum: 0,
         received: 0,
     };
-    let mut hold = [0u8; 1024];
-    let mut out = [0u8; 64];
+    let mut hold = [0u8; HOLD];
+    let mut out = [0u8; OUTPUT];
     let mut good = true;
     let mut at: usize = 0;
     while at < b.len() {
@@ -52,8 +54,5 @@ pub fn play(s: Settings, b: &[u8]) -> Played
     }
     let settings = c.settings;
     let clean = good & (c.transfer.active == 0) & (c.received == 0);
-    Played {
-        settings: settings,
-        clean: clean,
-    }
+    Played { settings, clean }
 }

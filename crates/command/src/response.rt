@@ -4,15 +4,16 @@ use crate::faults::Codes;
 use crate::judgement::Judgement;
 use crate::output::emit;
 use crate::settings::Settings;
+use crate::settings::value_of;
 use crate::value::data_of;
 ghost use mathlib.Core.Bool.{cond};
 ghost use mathlib.Core.List.{[], _∷_, _++_};
 ghost use mathlib.Core.Path.{_≡_};
 ghost use Prim.Native.Nat.{_+_, _≤_};
 ghost use lib.ListN.{length};
-ghost use Rattle.packet.specs.Packet.{whole};
-ghost use Rattle.packet.specs.Writer.{outputAfter};
-ghost use Rattle.command.specs.Inner.{lengthIn, Holds, contents};
+ghost use Rattle.packet.specs.Packet.{packetOf, whole};
+ghost use Rattle.packet.specs.Writer.{written};
+ghost use Rattle.command.specs.Inner.{Holds, contents};
 ghost use Rattle.command.specs.Faults.{codesOf};
 ghost use Rattle.command.specs.Response.{responseType, responseData};
 
@@ -62,13 +63,14 @@ fn response_data(s: Settings, j: Judgement) -> Data
         Judgement::Refuse(k) => codes_data(k),
         Judgement::Hold(_) => Data::EMPTY,
         Judgement::Write(_) => Data::EMPTY,
-        Judgement::Read(c) => data_of(crate::settings::value_of(s, c)),
+        Judgement::Read(c) => data_of(value_of(s, c)),
     }
 }
 
 // The response that a judgement draws: it repeats CMD1 and CMD2.
 pub(crate) fn respond(out: &mut [u8], s: Settings, cmd1: u8, cmd2: u8, j: Judgement) -> usize
-    ensures { λ r. ⌜ (r ≡ lengthIn (length (now (out .entry))) (responseData s j)) × (now (out .exit) ≡ outputAfter (responseType j) cmd1 cmd2 whole (responseData s j) (now (out .entry))) ⌝ }
+    requires { ⌜ 64 ≤ length (now out) ⌝ }
+    ensures { λ r. ⌜ (r ≡ length (packetOf (responseType j) cmd1 cmd2 whole (responseData s j))) × (now (out .exit) ≡ written (packetOf (responseType j) cmd1 cmd2 whole (responseData s j)) (now (out .entry))) ⌝ }
 {
     let kind = response_type(j);
     let d = response_data(s, j);

@@ -3,6 +3,9 @@ use crate::table::Command;
 ghost use mathlib.Core.Path.{_≡_};
 ghost use Rattle.command.specs.Controller.{heldIn, transferInRule};
 
+// At most so many payload bytes of a transfer are held.
+pub(crate) const HOLD: usize = 1024;
+
 // An open transfer: its command's bytes, and how many bytes of it are held. None is open where
 // `active` is 0.
 #[repr(C)]
@@ -14,7 +17,7 @@ pub struct TransferState {
 }
 
 impl TransferState {
-    pub const NONE: TransferState = TransferState {
+    pub(crate) const NONE: TransferState = TransferState {
         active: 0,
         cmd1: 0,
         cmd2: 0,
@@ -22,17 +25,18 @@ impl TransferState {
     };
 
     // How many bytes are held.
-    pub fn held(self) -> usize
+    pub(crate) fn held(self) -> usize
         ensures { λ r. ⌜ r ≡ heldIn self ⌝ }
     {
         if self.active == 0 { 0 } else { self.held }
     }
 
-    // At most 1,024 bytes are held, and an open transfer is for a command of the table.
-    pub fn in_rule(self) -> bool
+    // No more bytes are held than the hold has room for, and an open transfer is for a command of
+    // the table.
+    pub(crate) fn in_rule(self) -> bool
         ensures { λ r. ⌜ r ≡ transferInRule self ⌝ }
     {
         let known = Command::find(self.cmd1, self.cmd2).known();
-        (self.held <= 1024) & ((self.active == 0) | known)
+        (self.held <= HOLD) & ((self.active == 0) | known)
     }
 }

@@ -1,10 +1,14 @@
--- The parts of "in rule".
-use mathlib.Core.Path.{_≡_}
+-- When a controller is in rule, by its parts.
+use Prim.Native.Nat.{ℕ}
+use mathlib.Core.Path.{_≡_, refl}
+use mathlib.Core.List.{List}
 use mathlib.Core.Bool.{true, _&&_}
 use Rattle.packet.proofs.Cases.{and-left, and-right, and-both}
 use Rattle.command.specs.Rules.{settingsInRule}
 use Rattle.command.specs.Controller.{transferInRule, packetInRule, inRule}
+use Rattle.command.specs.Inner.{controllerOf, partsInRule}
 use Rattle.command.specs.declared.controller.Controller.{Controller}
+use Rattle.command.specs.declared.controller.Parts.{Parts}
 
 pub record Rule (c : Controller) : Type 0 where
   pub settings : settingsInRule (c .settings) ≡ true
@@ -26,3 +30,7 @@ rule-whole c r =
     let b = transferInRule (c .transfer) in
     let d = packetInRule (c .receiver .header) (c .receiver .received) in
     and-both (a && b) d (and-both a b (r .settings) (r .transfer)) (r .packet)
+
+pub parts-in-rule : (p : Parts) (hold : List ℕ) → inRule (controllerOf p hold) ≡ partsInRule p
+unfolding inRule
+parts-in-rule p hold = refl

@@ -1,73 +1,61 @@
--- Write packets: the encoder's packet is judged as its write, an accepted whole write encodes to its own bytes, and lists of writes.
-use Prim.Native.Nat.{ℕ, _+_, _≤_}
+-- Write packets: the encoder's packet is judged as its write, and an accepted whole write encodes to its own bytes.
+use Prim.Native.Nat.{ℕ, _≤_}
 use mathlib.Core.Path.{_≡_, refl, ap, sym, subst, _∙_}
-use mathlib.Core.Bool.{Bool, true, false, cond, not, _&&_, _||_}
+use mathlib.Core.Bool.{Bool, true, false, cond, not, _&&_, _||_, and-false}
 use mathlib.Core.List.{List, _++_}
 use native.Mathlib.Omega.{arith}
 use lib.Dec.{eqb}
-use borrow.Author.Tests.{eq-eqb, eqb-true, le-ltb, not-false}
 use lib.ListN.{length}
+use borrow.Author.Tests.{eq-eqb, eqb-true, le-ltb}
 use Rattle.packet.specs.Number.{Bytes}
-use Rattle.packet.specs.Packet.{typeOf, cmd1Of, cmd2Of, flagsOf, payloadLength, payload, rightSum, sum, sealed, packetOf, hostWrite, hostRead, whole}
+use Rattle.packet.specs.Packet.{typeOf, cmd1Of, cmd2Of, flagsOf, payloadLength, payload, sum, sealed, packetOf, hostWrite, hostRead, whole}
 use Rattle.packet.proofs.NumberLaws.{bytes-take, bytes-drop}
 use Rattle.packet.proofs.StreamLaws.{IsPacket}
-use Rattle.packet.proofs.WriterLaws.{length-written, size-written, packet-written, payload-written, sum-written, packet-remade}
-use Rattle.command.specs.Data.{splitAll, joinAll}
+use Rattle.packet.proofs.WriterLaws.{length-written, packet-written, payload-written, sum-written, packet-remade}
 use Rattle.command.specs.Table.{cmd1For, cmd2For, commandOf, isKnown, canRead, layout, sizeOf}
-use Rattle.command.specs.Rules.{allowed, blocked}
 use Rattle.command.specs.Settings.{store}
+use Rattle.command.specs.Rules.{allowed, blocked}
+use Rattle.command.specs.Data.{joinAll}
 use Rattle.command.specs.Value.{commandIn, valuesIn, valueFrom, dataIn}
 use Rattle.command.specs.Transfer.{Transfer, Closed, Opened, isOpen, held, openFor}
-use Rattle.command.specs.Faults.{Arrived, arrived, wrongCommand, tooLong, wrongOrder, faultsOf, faults, anyFault, sizeFault, valueFault, modeFault}
-use Rattle.command.specs.Judgement.{judgeWrite, judgeRead, judgeData, judge}
+use Rattle.command.specs.Faults.{Arrived, arrived, wrongCommand, tooLong, wrongOrder, faultsOf, faults, anyFault, modeFault}
+use Rattle.command.specs.Judgement.{judgeWrite, judgeData, judge}
 use Rattle.command.specs.Player.{State, from, judged, next}
 use Rattle.command.specs.Encoder.{writePacket, encoded}
-use Rattle.command.specs.declared.settings.Settings.{Settings}
 use Rattle.command.specs.declared.table.Command.{Command}
 use Rattle.command.specs.declared.table.Found.{Found}
-use Rattle.command.specs.declared.table.Found.the-variants.{Known, Unknown}
-use Rattle.command.specs.declared.faults.Codes.{Codes}
-use Rattle.command.specs.declared.judgement.Judgement.{Judgement}
-use Rattle.command.specs.declared.judgement.Judgement.the-variants.{Refuse, Write, Read}
+use Rattle.command.specs.declared.table.Found.the-variants.{Known}
+use Rattle.command.specs.declared.settings.Settings.{Settings}
 use Rattle.command.specs.declared.value.Value.{Value}
-use Rattle.command.proofs.data.Laws.{split-length, split-join, length-join, join-split}
+use Rattle.command.specs.declared.judgement.Judgement.the-variants.{Refuse, Write}
 use Rattle.command.proofs.table.Laws.{Fit, fit-length, found, known-code, size-small}
+use Rattle.command.proofs.data.Laws.{split-join, length-join, join-split}
 use Rattle.command.proofs.value.Laws.{command-from, values-from, value-from}
+use Rattle.command.proofs.transfer.Laws.{faultless}
+use Rattle.command.proofs.judgement.Laws.{OfWrite, of-judge}
 
 -- a packet without flags that this layer makes, as it arrives
 abbrev pub plain : ℕ → Command → List ℕ → Arrived
 plain type c d =
     record { type = type; cmd1 = cmd1For c; cmd2 = cmd2For c; flags = whole; size = length d; right = true; body = d }
 
-arrived-eq : (type cmd1 cmd2 flags : ℕ) {n n′ : ℕ} {r r′ : Bool} {d d′ : List ℕ} → n ≡ n′ → r ≡ r′ → d ≡ d′
-    → _≡_ {A = Arrived}
-    (record { type = type; cmd1 = cmd1; cmd2 = cmd2; flags = flags; size = n; right = r; body = d })
-    (record { type = type; cmd1 = cmd1; cmd2 = cmd2; flags = flags; size = n′; right = r′; body = d′ })
-arrived-eq type cmd1 cmd2 flags e f g = cc
-
 pub arrived-plain : (type : ℕ) (c : Command) (d : List ℕ) → length d ≤ 65535 → arrived (packetOf type (cmd1For c) (cmd2For c) whole d) ≡ plain type c d
 arrived-plain type c d h =
-    fields (length-written type (cmd1For c) (cmd2For c) whole d h) (sum-written type (cmd1For c) (cmd2For c) whole d h) (payload-written type (cmd1For c) (cmd2For c) whole d h)
-  where
-    fields : payloadLength (packetOf type (cmd1For c) (cmd2For c) whole d) ≡ length d
-        → rightSum (packetOf type (cmd1For c) (cmd2For c) whole d) ≡ true
-        → payload (packetOf type (cmd1For c) (cmd2For c) whole d) ≡ d
-        → arrived (packetOf type (cmd1For c) (cmd2For c) whole d) ≡ plain type c d
-    fields = unfold packetOf sealed in λ e f g. arrived-eq type (cmd1For c) (cmd2For c) whole e f g
+    rw (length-written type (cmd1For c) (cmd2For c) whole d h, sum-written type (cmd1For c) (cmd2For c) whole d h, payload-written type (cmd1For c) (cmd2For c) whole d h)
+    (unfold packetOf sealed in refl)
 
--- at a packet boundary with no transfer open, a whole write has no fault of the first group
-no-faults : (c : Command) (d : List ℕ) → length d ≤ 1024 → anyFault (faults (Known c) Closed (plain hostWrite c d)) ≡ false
-unfolding anyFault faults faultsOf wrongCommand tooLong wrongOrder
-no-faults c d h = rw (le-ltb 1024 (length d) h)
+-- At a packet boundary with no transfer open it has no fault of the first group, and is judged by its command and data alone.
+module _ (type : ℕ) (c : Command) (d : List ℕ) (w : wrongCommand (Known c) type ≡ false) (h : length d ≤ 1024) where
+  no-faults : anyFault (faults (Known c) Closed (plain type c d)) ≡ false
+  unfolding anyFault faults faultsOf tooLong wrongOrder
+  no-faults = rw (w, le-ltb 1024 (length d) h, and-false (not (eqb type hostWrite)))
 
-pub judge-plain : (mode : ℕ) (c : Command) (d : List ℕ) → length d ≤ 1024 → judge mode Closed (plain hostWrite c d) ≡ judgeWrite c mode d
-unfolding judge judgeData
-judge-plain mode c d h = rw (found c, no-faults c d h)
+  alone : (mode : ℕ) → judge mode Closed (plain type c d) ≡ judgeData (Known c) mode type whole d
+  unfolding judge
+  alone mode = rw (found c, no-faults)
 
--- and is judged by its command and data alone
-pub judge-written : (mode : ℕ) (c : Command) (d : List ℕ) → length d ≤ 1024 → judge mode Closed (arrived (writePacket c d)) ≡ judgeWrite c mode d
-unfolding writePacket
-judge-written mode c d h = rw (arrived-plain hostWrite c d (omega arith)) (judge-plain mode c d h)
+  pub judge-plain : (mode : ℕ) → judge mode Closed (arrived (packetOf type (cmd1For c) (cmd2For c) whole d)) ≡ judgeData (Known c) mode type whole d
+  judge-plain mode = rw (arrived-plain type c d (omega arith)) (alone mode)
 
 -- Values that fit and are allowed.
 module _ (c : Command) (v : List ℕ) (f : Fit (layout c) v) (a : allowed c v ≡ true) where
@@ -75,21 +63,16 @@ module _ (c : Command) (v : List ℕ) (f : Fit (layout c) v) (a : allowed c v �
   unfolding sizeOf
   length-data = length-join (layout c) v (fit-length (layout c) v f)
 
-  pub judge-values : (mode : ℕ) → judgeWrite c mode (joinAll (layout c) v) ≡ cond (blocked c v mode) (Refuse modeFault) (Write (valueFrom c v))
-  unfolding judgeWrite
-  judge-values mode = rw (eq-eqb (length (joinAll (layout c) v)) (sizeOf c) length-data, split-join (layout c) v f, a)
-
   -- the packet of a legal write is judged as that write; only run 1 outside mode 4 draws 07 instead
   pub judged-write : (mode : ℕ) → judge mode Closed (arrived (writePacket c (joinAll (layout c) v))) ≡ cond (blocked c v mode) (Refuse modeFault) (Write (valueFrom c v))
-  judged-write mode = judge-written mode c (joinAll (layout c) v) (omega (arith, length-data, size-small c)) ∙ judge-values mode
+  unfolding writePacket wrongCommand judgeData judgeWrite
+  judged-write mode =
+      judge-plain hostWrite c (joinAll (layout c) v) refl (omega (arith, length-data, size-small c)) mode
+      ∙ rw (eq-eqb (length (joinAll (layout c) v)) (sizeOf c) length-data, split-join (layout c) v f, a)
 
   pub write-packet : IsPacket (writePacket c (joinAll (layout c) v))
   unfolding writePacket
   write-packet = packet-written hostWrite (cmd1For c) (cmd2For c) whole (joinAll (layout c) v) (omega (arith, length-data, size-small c))
-
-  pub write-size : length (writePacket c (joinAll (layout c) v)) ≡ sizeOf c + 7
-  unfolding writePacket
-  write-size = size-written hostWrite (cmd1For c) (cmd2For c) whole (joinAll (layout c) v) (omega (arith, length-data, size-small c)) ∙ ap (λ (n : ℕ). n + 7) length-data
 
   -- a write that is not blocked is carried out
   pub next-write : (s : Settings) → blocked c v (s .mode) ≡ false
@@ -111,47 +94,6 @@ encoder-judged v s f a = (
 
 -- Every write accepted in one packet encodes to the bytes it arrived as.
 
-write-is : {k : Codes} {v : Value} → Refuse k ≡ Write v → ⊥
-write-is e = let z : _≡_ {A = ℕ} 0 1 = cc in omega arith
-
--- what a judgement that carries out a write says of its data
-record Carried (mode : ℕ) (d : List ℕ) (v : Value) (c : Command) : Type 0 where
-  full : length d ≡ sizeOf c
-  made : v ≡ valueFrom c (splitAll (layout c) d)
-
-carried-write : (c : Command) (mode : ℕ) (d : List ℕ) (v : Value) → judgeWrite c mode d ≡ Write v → Carried mode d v c
-unfolding judgeWrite
-carried-write c mode d v h =
-    go (eqb (length d) (sizeOf c)) refl (allowed c (splitAll (layout c) d)) (blocked c (splitAll (layout c) d) mode) h
-  where
-    go : (l : Bool) → eqb (length d) (sizeOf c) ≡ l → (a b : Bool)
-        → cond l (cond a (cond b (Refuse modeFault) (Write (valueFrom c (splitAll (layout c) d)))) (Refuse valueFault)) (Refuse sizeFault) ≡ Write v
-        → Carried mode d v c
-    go false e a b h = absurd (write-is h)
-    go true e false b h = absurd (write-is h)
-    go true e true true h = absurd (write-is h)
-    go true e true false h = record { full = eqb-true (length d) (sizeOf c) e; made = cc }
-
--- a packet that is judged without a fault of the first group
-record Faultless (f : Found) (t : Transfer) (p : Arrived) : Type 0 where
-  command : wrongCommand f (p .type) ≡ false
-  sum : p .right ≡ true
-  order : wrongOrder (isOpen t) (openFor f t) (p .type) (p .flags) ≡ false
-
-faultless : (f : Found) (t : Transfer) (p : Arrived) → anyFault (faults f t p) ≡ false → Faultless f t p
-unfolding anyFault faults faultsOf
-faultless f t p h = record { command = parts .0; sum = not-false (p .right) (parts .1); order = parts .2 }
-  where
-    split : (a b c d : Bool) → (a || b || c || d) ≡ false → (a ≡ false) × (c ≡ false) × (d ≡ false)
-    split false false false false h = (refl, refl, refl)
-    split false false false true h = let z : _≡_ {A = ℕ} 0 1 = cc in absurd (omega arith)
-    split false false true d h = let z : _≡_ {A = ℕ} 0 1 = cc in absurd (omega arith)
-    split false true c d h = let z : _≡_ {A = ℕ} 0 1 = cc in absurd (omega arith)
-    split true b c d h = let z : _≡_ {A = ℕ} 0 1 = cc in absurd (omega arith)
-
-    parts : (wrongCommand f (p .type) ≡ false) × (not (p .right) ≡ false) × (wrongOrder (isOpen t) (openFor f t) (p .type) (p .flags) ≡ false)
-    parts = split (wrongCommand f (p .type)) (tooLong (isOpen t) (length (held t)) (p .flags) (p .size)) (not (p .right)) (wrongOrder (isOpen t) (openFor f t) (p .type) (p .flags)) h
-
 -- flags 00 are in order only with no transfer open
 whole-closed : (t : Transfer) (o : Bool) (type : ℕ) → wrongOrder (isOpen t) o type whole ≡ false → t ≡ Closed
 unfolding wrongOrder
@@ -172,45 +114,6 @@ type-write f type h e = eqb-true type hostWrite (go (eqb type hostWrite) (eqb ty
     go false true k c h e = let z : _≡_ {A = ℕ} 0 1 = cc in absurd (omega arith)
     go false false k c h e = let z : _≡_ {A = ℕ} 0 1 = cc in absurd (omega arith)
 
--- what a whole packet that is carried out as a write has
-record Whole (p : Arrived) (v : Value) (c : Command) : Type 0 where
-  type : p .type ≡ hostWrite
-  full : length (p .body) ≡ sizeOf c
-  made : v ≡ valueFrom c (splitAll (layout c) (p .body))
-
-whole-data : (mode : ℕ) (f : Found) (p : Arrived) (v : Value) → p .flags ≡ whole → wrongCommand f (p .type) ≡ false
-    → judgeData f mode (p .type) (p .flags) (p .body) ≡ Write v
-    → (c : Command) → f ≡ Known c → Whole p v c
-unfolding judgeData
-whole-data mode Unknown p v z w h c k = absurd (write-is h)
-whole-data mode (Known d) p v z w h c k = go (eqb (p .type) hostRead) refl h′
-  where
-    d≡c : d ≡ c
-    d≡c = cc
-
-    h′ : cond (eqb (p .type) hostRead) (judgeRead d (length (p .body))) (judgeWrite d mode (p .body)) ≡ Write v
-    h′ = rw z at h
-
-    go : (r : Bool) → eqb (p .type) hostRead ≡ r → cond r (judgeRead d (length (p .body))) (judgeWrite d mode (p .body)) ≡ Write v → Whole p v c
-    go true e h = absurd (no-write (eqb (length (p .body)) 0) (unfold judgeRead in h))
-      where
-        no-write : (b : Bool) → cond b (Read d) (Refuse sizeFault) ≡ Write v → ⊥
-        no-write true h = let z : _≡_ {A = ℕ} 0 1 = cc in omega arith
-        no-write false h = write-is h
-    go false e h =
-        let k = carried-write d mode (p .body) v h in
-        subst (Whole p v) d≡c (record { type = type-write (Known d) (p .type) w e; full = k .full; made = k .made })
-
--- the judgement is a write, so no fault of the first group holds
-no-fault : (b : Bool) (k : Codes) (j : Judgement) (v : Value) → cond b (Refuse k) j ≡ Write v → (b ≡ false) × (j ≡ Write v)
-no-fault true k j v h = absurd (write-is h)
-no-fault false k j v h = (refl, h)
-
--- a found command, or none
-found-cases : {P : Type 0} (f : Found) → (f ≡ Unknown → P) → ((c : Command) → f ≡ Known c → P) → P
-found-cases Unknown g h = g refl
-found-cases (Known c) g h = h c refl
-
 pub packet-eq : {t t′ a a′ b b′ f f′ : ℕ} {d d′ : List ℕ} → t ≡ t′ → a ≡ a′ → b ≡ b′ → f ≡ f′ → d ≡ d′ → packetOf t a b f d ≡ packetOf t′ a′ b′ f′ d′
 packet-eq e1 e2 e3 e4 e5 = cc
 
@@ -218,29 +121,20 @@ payload-bytes : (p : List ℕ) → Bytes p → Bytes (payload p)
 unfolding payload
 payload-bytes p b = bytes-take (payloadLength p) _ (bytes-drop 6 p b)
 
-module _ (p : List ℕ) (b : Bytes p) (i : IsPacket p) where
-  remade-write : (c : Command) (v : Value) → commandOf (cmd1Of p) (cmd2Of p) ≡ Known c → flagsOf p ≡ whole → rightSum p ≡ true → Whole (arrived p) v c → encoded v ≡ p
-  unfolding encoded dataIn writePacket sizeOf
-  remade-write c v k z r w =
-      let code = known-code (cmd1Of p) (cmd2Of p) c k in
-      let d : joinAll (layout c) (splitAll (layout c) (payload p)) ≡ payload p = join-split (layout c) (payload p) (payload-bytes p b) (w .full) in
-      ap (λ (x : Value). packetOf hostWrite (cmd1For (commandIn x)) (cmd2For (commandIn x)) whole (joinAll (layout (commandIn x)) (valuesIn x))) (w .made)
-      ∙ rw (command-from c (splitAll (layout c) (payload p)), values-from c (splitAll (layout c) (payload p)) (split-length (layout c) (payload p)))
-      (packet-eq (sym (w .type)) (sym (code .0)) (sym (code .1)) (sym z) d ∙ packet-remade p b i r)
-
-  pub accepted-encodes : (a : State) (v : Value) → flagsOf p ≡ whole → judged a p ≡ Write v → encoded v ≡ p
-  unfolding judged judge
-  accepted-encodes a v z h =
-      let q = arrived p in
-      let f = commandOf (cmd1Of p) (cmd2Of p) in
-      let n = no-fault (anyFault (faults f (a .transfer) q)) (faults f (a .transfer) q) (judgeData f (a .settings .mode) (typeOf p) (flagsOf p) (held (a .transfer) ++ payload p)) v h in
-      let g = faultless f (a .transfer) q (n .0) in
-      let t : a .transfer ≡ Closed = whole-closed (a .transfer) (openFor f (a .transfer)) (typeOf p) (subst (λ (x : ℕ). wrongOrder (isOpen (a .transfer)) (openFor f (a .transfer)) (typeOf p) x ≡ false) z (g .order)) in
-      let e : judgeData f (a .settings .mode) (typeOf p) (flagsOf p) (payload p) ≡ Write v =
-      ap (λ (x : Transfer). judgeData f (a .settings .mode) (typeOf p) (flagsOf p) (held x ++ payload p)) (sym t) ∙ n .1 in
-      found-cases f
-      (λ u. absurd (unknown-write (typeOf p) (flagsOf p) (payload p) u e))
-      (λ c k. remade-write c v k z (g .sum) (whole-data (a .settings .mode) f q v z (g .command) e c k))
-    where
-      unknown-write : (type flags : ℕ) (d : List ℕ) → commandOf (cmd1Of p) (cmd2Of p) ≡ Unknown → judgeData (commandOf (cmd1Of p) (cmd2Of p)) (a .settings .mode) type flags d ≡ Write v → ⊥
-      unknown-write type flags d u h = unfold judgeData in write-is (sym (ap (λ (f : Found). judgeData f (a .settings .mode) type flags d) u) ∙ h)
+pub accepted-encodes : (p : List ℕ) → Bytes p → IsPacket p → (a : State) (v : Value) → flagsOf p ≡ whole → judged a p ≡ Write v → encoded v ≡ p
+unfolding judged encoded dataIn writePacket sizeOf
+accepted-encodes p b i a v z h =
+    subst (OfWrite Remade) h
+    (of-judge Remade (a .settings .mode) (a .transfer) (arrived p)
+    (λ e c k r n w.
+    let g = faultless (commandOf (cmd1Of p) (cmd2Of p)) (a .transfer) (arrived p) e in
+    let code = known-code (cmd1Of p) (cmd2Of p) c k in
+    let d : held (a .transfer) ++ payload p ≡ payload p =
+    ap (λ (x : Transfer). held x ++ payload p)
+    (whole-closed (a .transfer) (openFor (commandOf (cmd1Of p) (cmd2Of p)) (a .transfer)) (typeOf p) (rw z at (g .order))) in
+    packet-eq (sym (type-write (commandOf (cmd1Of p) (cmd2Of p)) (typeOf p) (g .command) r)) (sym (code .0)) (sym (code .1)) (sym z)
+    (rw d (join-split (layout c) (payload p) (payload-bytes p b) (rw d at n)))
+    ∙ packet-remade p b i (g .sum)))
+  where
+    Remade : Command → List ℕ → Type 0
+    Remade c u = packetOf hostWrite (cmd1For c) (cmd2For c) whole (joinAll (layout c) u) ≡ p

@@ -7,22 +7,20 @@ use native.Mathlib.Omega.{arith}
 use lib.ListN.{length, getD, take, length-append}
 use Rattle.packet.specs.Packet.{sum, hostWrite, whole}
 use Rattle.packet.specs.Stream.{packets, rest}
-use Rattle.packet.proofs.Cases.{and-both}
-use Rattle.packet.proofs.WriterLaws.{size-written}
 use Rattle.packet.proofs.StreamLaws.{IsPacket, packets-nil, rest-nil, packets-cons, rest-cons}
-use Rattle.command.specs.Table.{table, cmd1For, cmd2For, sizeOf}
+use Rattle.packet.proofs.WriterLaws.{size-written}
+use Rattle.command.specs.Table.{table, cmd1For, cmd2For, layout, sizeOf}
 use Rattle.command.specs.Settings.{valuesOf, factory, valuesAfter, store}
 use Rattle.command.specs.Rules.{blocked}
 use Rattle.command.specs.Value.{dataOf, valueFrom}
-use Rattle.command.specs.Response.{acknowledged}
-use Rattle.command.specs.Player.{State, from, judged, next, judgements, after, play, allAcknowledged, clean}
+use Rattle.command.specs.Player.{State, from, judgements, after, play, allAcknowledged, clean}
 use Rattle.command.specs.Encoder.{writePacket, encoded, listOf, standardList}
-use Rattle.command.specs.declared.settings.Settings.{Settings}
 use Rattle.command.specs.declared.table.Command.{Command}
+use Rattle.command.specs.declared.settings.Settings.{Settings}
 use Rattle.command.proofs.table.Laws.{each, size-small}
-use Rattle.command.proofs.output.Laws.{data-length}
+use Rattle.command.proofs.rules.Laws.{Kept, Fits, length-values}
+use Rattle.command.proofs.data.Laws.{length-join}
 use Rattle.command.proofs.value.Laws.{command-from, data-from}
-use Rattle.command.proofs.rules.Laws.{Kept, Fits}
 use Rattle.command.proofs.encoder.Laws.{write-packet, next-write}
 
 -- the settings t after the values of s were written with each command of a list
@@ -45,6 +43,11 @@ pub record Plays (cs : List Command) (s t : Settings) : Type 0 where
 unfoldable pub sizes : List Command → ℕ
 sizes [] = 0
 sizes (c ∷ cs) = sizeOf c + 7 + sizes cs
+
+-- the data of a command have its size
+data-length : (c : Command) (s : Settings) → length (dataOf c s) ≡ sizeOf c
+unfolding dataOf sizeOf
+data-length c s = length-join (layout c) (valuesOf c s) (length-values s c)
 
 write-length : (c : Command) (s : Settings) → length (writePacket c (dataOf c s)) ≡ sizeOf c + 7
 unfolding writePacket
@@ -95,17 +98,12 @@ module _ (s : Settings) (k : Kept s) (f : Fits s) where
   unfolding play listOf after judgements allAcknowledged storeAll dataOf
   plays [] t g = record { good = rw packets-nil; ends = rw packets-nil; none = rest-nil }
   plays (c ∷ cs) t g =
-      let p : List (List ℕ) = packets (listOf cs s) in
-      let cut : packets (writePacket c (dataOf c s) ++ listOf cs s) ≡ writePacket c (dataOf c s) ∷ packets (listOf cs s) = packets-cons (writePacket c (dataOf c s)) (listOf cs s) (write-of c) in
+      let cut = packets-cons (writePacket c (dataOf c s)) (listOf cs s) (write-of c) in
       let n = next-write c (valuesOf c s) (f c) (k .values c) t (g .0) in
       let i = plays cs (store c (valuesOf c s) t) (g .1) in
       record {
-        good =
-            ap (λ (x : List (List ℕ)). allAcknowledged (judgements (from t) x)) cut
-            ∙ and-both (acknowledged (judged (from t) (writePacket c (dataOf c s)))) (allAcknowledged (judgements (next (from t) (writePacket c (dataOf c s))) p))
-            (ap acknowledged (n .0))
-            (ap (λ (x : State). allAcknowledged (judgements x p)) (n .1) ∙ i .good);
-        ends = ap (after (from t)) cut ∙ ap (λ (x : State). after x p) (n .1) ∙ i .ends;
+        good = rw (cut, n .1, n .0) (i .good);
+        ends = ap (after (from t)) cut ∙ ap (λ (x : State). after x (packets (listOf cs s))) (n .1) ∙ i .ends;
         none = rest-cons (writePacket c (dataOf c s)) (listOf cs s) (write-of c) ∙ i .none;
       }
 

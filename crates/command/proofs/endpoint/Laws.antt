@@ -6,33 +6,33 @@ use mathlib.Core.List.{List, [], _∷_, _++_}
 use mathlib.Core.Option.{Option, none, some}
 use native.Mathlib.Omega.{arith}
 use lib.Dec.{ltb}
-use borrow.Author.Tests.{lt-ltb, le-ltb, ltb-true, ltb-false, le-leb}
 use lib.ListN.{length, take}
 use lib.Seq.{sets}
+use borrow.Author.Tests.{lt-ltb, le-ltb, ltb-true, ltb-false, le-leb}
+use Rattle.packet.specs.Calls.{Call}
 use Rattle.packet.specs.Packet.{payloadLength}
 use Rattle.packet.specs.Receiver.{Received, with, missing, waiting as receiverWaiting, completed}
-use Rattle.packet.specs.Calls.{Call, servedOne, served, joined}
 use Rattle.packet.specs.declared.receiver.Receiver.{Receiver}
-use Rattle.packet.proofs.Cases.{bool-cases, cond-cases}
+use Rattle.packet.proofs.Cases.{bool-cases}
+use Rattle.packet.proofs.Calls.{Streaming, shifted}
 use Rattle.packet.proofs.ReceiverLaws.{Made, made-with, made-between, with-nil, missing-least, after, cut, behind, waits, completes}
-use Rattle.packet.proofs.Calls.{Streaming, shifted, in-pieces}
 use Rattle.command.specs.Table.{commandOf}
 use Rattle.command.specs.Transfer.{Transfer, held}
-use Rattle.command.specs.Faults.{Arrived, faults, anyFault}
-use Rattle.command.specs.Judgement.{judgeData, judge}
+use Rattle.command.specs.Faults.{Arrived}
+use Rattle.command.specs.Judgement.{judge}
 use Rattle.command.specs.Carry.{settingsAfter}
 use Rattle.command.specs.Controller.{heldIn, transferIn, transferInRule, transferStateAfter, packetInRule, inRule}
 use Rattle.command.specs.Endpoint.{Outcome, Refuses, Waits, Answers, arrivedIn, judgedIn, carriedOut, responseIn, takenBy, After, waiting, answered, receiveCall}
+use Rattle.command.specs.declared.transfer.TransferState.{TransferState}
 use Rattle.command.specs.declared.judgement.Judgement.{Judgement}
 use Rattle.command.specs.declared.judgement.Judgement.the-variants.{Refuse, Hold, Write, Read}
-use Rattle.command.specs.declared.transfer.TransferState.{TransferState}
 use Rattle.command.specs.declared.controller.Controller.{Controller}
-use Rattle.command.proofs.controller.Laws.{Rule, rule-parts, rule-whole}
 use Rattle.command.proofs.table.Laws.{found}
 use Rattle.command.proofs.rules.Laws.{kept-by, in-rule-of}
-use Rattle.command.proofs.judgement.Laws.{sound}
-use Rattle.command.proofs.player.Laws.{kept-judgement}
 use Rattle.command.proofs.transfer.Laws.{fits-hold, held-length}
+use Rattle.command.proofs.judgement.Laws.{judge-cases, sound}
+use Rattle.command.proofs.controller.Laws.{Rule, rule-parts, rule-whole}
+use Rattle.command.proofs.player.Laws.{kept-judgement}
 
 -- what a call shows of its answer: the bytes taken, and the response at the output's start
 abbrev pub takenOf : Outcome → ℕ
@@ -57,21 +57,24 @@ pub record Ready (c : Controller) : Type 0 where
   pub rule : inRule c ≡ true
   pub made : Made (c .receiver)
 
--- the two ends of a call that is not refused
+-- a call that is not refused, by what the receiver took
+abbrev pub ends : Controller → List ℕ → Received → After
+ends c out t = cond (t .complete) (answered c t out) (waiting c t out)
+
 module _ (c : Controller) (b out : List ℕ) (k : Ready c) (l : 64 ≤ length out) where
-  pub not-refused : receiveCall c b out ≡ cond (takenBy c b .complete) (answered c (takenBy c b) out) (waiting c (takenBy c b) out)
+  pub call-is : {t : Received} → takenBy c b ≡ t → receiveCall c b out ≡ ends c out t
   unfolding receiveCall
-  not-refused = rw (le-ltb (length out) 64 l, k .rule)
+  call-is e = rw (le-ltb (length out) 64 l, k .rule, e)
 
   pub call-waits : length b < missing (c .receiver) b
       → receiveCall c b out ≡ waiting c (receiverWaiting (c .receiver) (heldIn (c .transfer)) b) out
   unfolding receiverWaiting
-  call-waits h = not-refused ∙ ap (λ (t : Received). cond (t .complete) (answered c t out) (waiting c t out)) (waits (c .receiver) (heldIn (c .transfer)) b h)
+  call-waits h = call-is (waits (c .receiver) (heldIn (c .transfer)) b h)
 
   pub call-answers : missing (c .receiver) b ≤ length b
       → receiveCall c b out ≡ answered c (completed (c .receiver) (heldIn (c .transfer)) b (missing (c .receiver) b)) out
   unfolding completed
-  call-answers h = not-refused ∙ ap (λ (t : Received). cond (t .complete) (answered c t out) (waiting c t out)) (completes (c .receiver) (heldIn (c .transfer)) b h)
+  call-answers h = call-is (completes (c .receiver) (heldIn (c .transfer)) b h)
 
   by-ends : {P : Type 0} → (length b < missing (c .receiver) b → P) → (missing (c .receiver) b ≤ length b → P) → P
   by-ends f g =
@@ -87,19 +90,10 @@ Bounded n (Hold c) = n ≤ 1024
 Bounded n (Write v) = Unit {0}
 Bounded n (Read c) = Unit {0}
 
-bounded-any : (n : ℕ) → n ≤ 1024 → (j : Judgement) → Bounded n j
-bounded-any n h (Refuse k) = tt
-bounded-any n h (Hold c) = h
-bounded-any n h (Write v) = tt
-bounded-any n h (Read c) = tt
-
 pub bounded : (mode : ℕ) (t : Transfer) (p : Arrived) → Bounded (length (held t) + p .size) (judge mode t p)
-unfolding judge
 bounded mode t p =
-    let f = commandOf (p .cmd1) (p .cmd2) in
-    cond-cases (Bounded (length (held t) + p .size)) (anyFault (faults f t p))
-    (λ _. tt)
-    (λ e. bounded-any (length (held t) + p .size) (fits-hold f t p e) (judgeData f mode (p .type) (p .flags) (held t ++ p .body)))
+    judge-cases (Bounded (length (held t) + p .size)) mode t p (λ _. tt)
+    (λ e. record { size = tt; value = tt; blocks = tt; hold = λ _. fits-hold (commandOf (p .cmd1) (p .cmd2)) t p e; read = λ _. tt; write = λ _ _ _ _ _. tt })
 
 transfer-kept : (t : TransferState) (n : ℕ) (j : Judgement) → transferInRule t ≡ true → Bounded n j → transferInRule (transferStateAfter t n j) ≡ true
 unfolding transferInRule
@@ -116,9 +110,8 @@ ready-carried c t k m z =
     let a = transferIn (c .transfer) (t .receiver .hold) in
     let q = arrivedIn (heldIn (c .transfer)) t in
     let j = judge (c .settings .mode) (transferIn (c .transfer) (t .receiver .hold)) (arrivedIn (heldIn (c .transfer)) t) in
-    let n : length (held a) ≡ heldIn (c .transfer) = held-length (c .transfer) (t .receiver .hold) (r .transfer) (m .hold) in
-    let b : Bounded (heldIn (c .transfer) + payloadLength (t .receiver .header)) j =
-    subst (λ (x : ℕ). Bounded (x + payloadLength (t .receiver .header)) (judge (c .settings .mode) (transferIn (c .transfer) (t .receiver .hold)) (arrivedIn (heldIn (c .transfer)) t))) n (bounded (c .settings .mode) a q) in
+    let n : length (held a) ≡ heldIn (c .transfer) = held-length (c .transfer) (r .transfer) (t .receiver .hold) (m .hold) in
+    let b : Bounded (heldIn (c .transfer) + payloadLength (t .receiver .header)) j = rw n at (bounded (c .settings .mode) a q) in
     record {
       rule =
           rule-whole _
@@ -166,12 +159,11 @@ pub stays-in-rule : (c : Controller) (b out : List ℕ) → Ready c → 64 ≤ l
 unfolding receiverWaiting completed
 stays-in-rule c b out k l =
     by-ends c b out k l
-    (λ h. subst (λ (r : After). Ready (r .controller)) (sym (call-waits c b out k l h)) (ready-waiting c b k h))
+    (λ h. rw (call-waits c b out k l h) (ready-waiting c b k h))
     (λ h.
-    let n = missing (c .receiver) b in
     let w = with (c .receiver) (heldIn (c .transfer)) (take (missing (c .receiver) b - 1) b) in
-    subst (λ (r : After). Ready (r .controller)) (sym (call-answers c b out k l h))
-    (ready-carried c (completed (c .receiver) (heldIn (c .transfer)) b n) k
+    rw (call-answers c b out k l h)
+    (ready-carried c (completed (c .receiver) (heldIn (c .transfer)) b (missing (c .receiver) b)) k
     (made-between w (made-with (c .receiver) (heldIn (c .transfer)) (take (missing (c .receiver) b - 1) b) (k .made))) refl))
 
 -- The receive call over a stream.
@@ -195,35 +187,22 @@ module _ (out : List ℕ) (l : 64 ≤ length out) where
   abbrev with-part : Controller → List ℕ → Controller
   with-part c a = record { settings = c .settings; transfer = c .transfer; receiver = with (c .receiver) (heldIn (c .transfer)) a }
 
-  ends-as : Controller → Received → After
-  ends-as c t = cond (t .complete) (answered c t out) (waiting c t out)
-
-  shown-by : (c d : Controller) (n : ℕ) (t : Received) → c .settings ≡ d .settings → c .transfer ≡ d .transfer → (b : Bool)
-      → shown (cond b (answered c (after n t) out) (waiting c (after n t) out)) ≡ shifted n (shown (cond b (answered d t out) (waiting d t out)))
+  shown-after : (c : Controller) (a : List ℕ) (n : ℕ) (t : Received) (b : Bool)
+      → shown (cond b (answered c (after n t) out) (waiting c (after n t) out)) ≡ shifted n (shown (cond b (answered (with-part c a) t out) (waiting (with-part c a) t out)))
   unfolding responseIn judgedIn
-  shown-by c d n t e f true = rw (e, f)
-  shown-by c d n t e f false = rw (e, f)
-
-  shown-after : (c d : Controller) (n : ℕ) (t : Received) → c .settings ≡ d .settings → c .transfer ≡ d .transfer
-      → shown (ends-as c (after n t)) ≡ shifted n (shown (ends-as d t))
-  unfolding ends-as
-  shown-after c d n t e f = shown-by c d n t e f (t .complete)
+  shown-after c a n t true = refl
+  shown-after c a n t false = refl
 
   cut-call : (c : Controller) (a b : List ℕ) → Ready c → length a < missing (c .receiver) a
       → serves out c (a ++ b) ≡ shifted (length a) (serves out (with-part c a) b)
-  unfolding ends-as
   cut-call c a b k h =
-      ap shown (not-refused c (a ++ b) out k l)
-      ∙ ap (λ (t : Received). shown (ends-as c t)) (cut (c .receiver) (heldIn (c .transfer)) a b (k .made .header) h)
-      ∙ shown-after c (with-part c a) (length a) (takenBy (with-part c a) b) refl refl
-      ∙ ap (λ (r : After). shifted (length a) (shown r)) (sym (not-refused (with-part c a) b out (ready-waiting c a k h) l))
+      ap shown (call-is c (a ++ b) out k l (cut (c .receiver) (heldIn (c .transfer)) a b (k .made .header) h))
+      ∙ shown-after c a (length a) (takenBy (with-part c a) b) (takenBy (with-part c a) b .complete)
+      ∙ ap (λ (r : After). shifted (length a) (shown r)) (sym (call-is (with-part c a) b out (ready-waiting c a k h) l refl))
 
   behind-call : (c : Controller) (a b : List ℕ) → Ready c → missing (c .receiver) a ≤ length a → serves out c (a ++ b) ≡ serves out c a
-  unfolding ends-as
   behind-call c a b k h =
-      ap shown (not-refused c (a ++ b) out k l)
-      ∙ ap (λ (t : Received). shown (ends-as c t)) (behind (c .receiver) (heldIn (c .transfer)) a b (k .made .header) h)
-      ∙ sym (ap shown (not-refused c a out k l))
+      ap shown (call-is c (a ++ b) out k l (behind (c .receiver) (heldIn (c .transfer)) a b (k .made .header) h) ∙ sym (call-is c a out k l refl))
 
   count-answers : (c : Controller) (a : List ℕ) → Ready c → missing (c .receiver) a ≤ length a → serves out c a .taken ≡ missing (c .receiver) a
   unfolding completed
@@ -245,7 +224,3 @@ module _ (out : List ℕ) (l : 64 ≤ length out) where
         least = λ c a e k g. omega (arith, missing-least (c .receiver) a, count-answers c a k (some-answers c a e k g));
         most = λ c a e k g. omega (arith, some-answers c a e k g, count-answers c a k (some-answers c a e k g));
       }
-
-  -- Demand 2, however the byte stream was cut: the responses in order and the controller at the end are those of the joined bytes.
-  pub cut-anywhere : (c : Controller) (bs : List (List ℕ)) → Ready c → served (serves out) c bs ≡ servedOne (serves out) c (joined bs)
-  cut-anywhere c bs k = in-pieces (serves out) Ready endpoint-streams c bs k

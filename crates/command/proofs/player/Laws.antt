@@ -1,4 +1,4 @@
--- Playing: what it keeps, packets one after the other, and what a list of writes leaves.
+-- Playing: what it keeps, and packets in two runs.
 use Prim.Native.Nat.{ℕ}
 use mathlib.Core.Path.{_≡_, refl}
 use mathlib.Core.List.{List, [], _∷_, _++_}
@@ -7,17 +7,21 @@ use Rattle.packet.specs.Packet.{payloadLength, payload}
 use Rattle.packet.specs.Stream.{packets}
 use Rattle.packet.proofs.NumberLaws.{bytes-append, bytes-take, bytes-drop}
 use Rattle.packet.proofs.StreamLaws.{AllBytes, packets-bytes}
+use Rattle.command.specs.Table.{layout}
+use Rattle.command.specs.Settings.{store}
+use Rattle.command.specs.Value.{commandIn, valuesIn}
 use Rattle.command.specs.Transfer.{Transfer, held}
 use Rattle.command.specs.Faults.{Arrived, arrived}
 use Rattle.command.specs.Judgement.{judge}
 use Rattle.command.specs.Carry.{settingsAfter, transferAfter}
 use Rattle.command.specs.Player.{State, from, judged, next, after, play}
+use Rattle.command.specs.declared.table.Command.{Command}
 use Rattle.command.specs.declared.settings.Settings.{Settings}
 use Rattle.command.specs.declared.judgement.Judgement.{Judgement}
 use Rattle.command.specs.declared.judgement.Judgement.the-variants.{Refuse, Hold, Write, Read}
-use Rattle.command.specs.Value.{commandIn, valuesIn}
-use Rattle.command.proofs.rules.Laws.{Kept, Fits, kept-store, fits-store}
-use Rattle.command.proofs.judgement.Laws.{Sound, sound, Fitting, fitting}
+use Rattle.command.proofs.table.Laws.{Fit}
+use Rattle.command.proofs.rules.Laws.{Kept, Fits, Writable, kept-store, fits-store}
+use Rattle.command.proofs.judgement.Laws.{OfWrite, Sound, sound, fitting}
 
 -- the state keeps the rules: its settings do, their values fit, and what is held are bytes
 pub record Holding (a : State) : Type 0 where
@@ -25,17 +29,16 @@ pub record Holding (a : State) : Type 0 where
   pub fits : Fits (a .settings)
   pub bytes : Bytes (held (a .transfer))
 
-pub kept-judgement : (s : Settings) (j : Judgement) → Kept s → Sound (s .mode) j → Kept (settingsAfter s j)
-kept-judgement s (Refuse k) h w = h
-kept-judgement s (Hold c) h w = h
-kept-judgement s (Write v) h w = kept-store (commandIn v) (valuesIn v) s h w
-kept-judgement s (Read c) h w = h
+-- what a store of such values keeps, a judgement keeps that carries out no other
+carried : (P : Settings → Type 0) (Q : Command → List ℕ → Type 0) (s : Settings) → ((c : Command) (v : List ℕ) → P s → Q c v → P (store c v s))
+    → (j : Judgement) → P s → OfWrite Q j → P (settingsAfter s j)
+carried P Q s k (Refuse _) h w = h
+carried P Q s k (Hold _) h w = h
+carried P Q s k (Write v) h w = k (commandIn v) (valuesIn v) h w
+carried P Q s k (Read _) h w = h
 
-fits-judgement : (s : Settings) (j : Judgement) → Fits s → Fitting j → Fits (settingsAfter s j)
-fits-judgement s (Refuse k) h w = h
-fits-judgement s (Hold c) h w = h
-fits-judgement s (Write v) h w = fits-store (commandIn v) (valuesIn v) s h w
-fits-judgement s (Read c) h w = h
+pub kept-judgement : (s : Settings) (j : Judgement) → Kept s → Sound (s .mode) j → Kept (settingsAfter s j)
+kept-judgement s j = carried Kept (Writable (s .mode)) s (λ c v. kept-store c v s) j
 
 bytes-judgement : (t : Transfer) (p : Arrived) (j : Judgement) → Bytes (held t) → Bytes (held t ++ p .body) → Bytes (held (transferAfter t p j))
 bytes-judgement t p (Refuse k) h b = tt
@@ -54,7 +57,7 @@ holding-next a p h b =
     let j = judge (a .settings .mode) (a .transfer) (arrived p) in
     record {
       rules = kept-judgement (a .settings) j (h .rules) (sound (a .settings .mode) (a .transfer) (arrived p));
-      fits = fits-judgement (a .settings) j (h .fits) (fitting (a .settings .mode) (a .transfer) (arrived p) d);
+      fits = carried Fits (λ c v. Fit (layout c) v) (a .settings) (λ c v. fits-store c v (a .settings)) j (h .fits) (fitting (a .settings .mode) (a .transfer) (arrived p) d);
       bytes = bytes-judgement (a .transfer) (arrived p) j (h .bytes) d;
     }
 

@@ -2,14 +2,14 @@
 use Prim.Native.Nat.{ℕ}
 use mathlib.Core.Path.{_≡_, refl}
 use mathlib.Core.List.{List, [], _∷_}
-use types.Run.{OneOf, miss}
+use borrow.Author.Needs.{needs}
 use denote.Enum.Declared.{tagOf}
+use types.Run.{OneOf, miss}
 use Rattle.command.specs.Carry.{settingsAfter}
 use Rattle.command.specs.declared.settings.Settings.{Settings}
 use Rattle.command.specs.declared.judgement.Judgement.{Judgement}
 use Rattle.command.specs.declared.judgement.Judgement.the-variants.{Refuse, Hold, Write, Read}
 use Rattle.command.proofs.judgement.Judgement.{the-type}
-use borrow.Author.Needs.{needs}
 use Rattle.command.proofs.carry.settings_after.Statement.{statement}
 use Rattle.command.proofs.carry.settings_after.Tie as tie
 
@@ -29,9 +29,4 @@ returns-2 : tie.Need-returns-2
 returns-2 c = others (c .before .args .s) (c .before .args .j) (c .match .keys2)
 
 pub settings-after-spec : {M : Type 1} → statement M
-settings-after-spec =
-    tie.close (tie.spec
-    (λ c. search needs)
-    (λ c κs. search needs)
-    returns
-    returns-2)
+settings-after-spec = tie.close (tie.spec (λ c. search needs) (λ c κs. search needs) returns returns-2)

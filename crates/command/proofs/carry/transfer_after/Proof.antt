@@ -3,25 +3,9 @@ use borrow.Author.Needs.{needs}
 use Rattle.command.proofs.carry.transfer_after.Statement.{statement}
 use Rattle.command.proofs.carry.transfer_after.Tie as tie
 
-returns : tie.Need-returns
-returns c = rw (c .enum-told .given .1)
-
-returns-2 : tie.Need-returns-2
-returns-2 c = rw (c .before .before .j .given .1, c .code .ensures .0, c .code .ensures .1)
-
-returns-3 : tie.Need-returns-3
-returns-3 c = rw (c .enum-told2 .given .1)
-
 pub transfer-after-spec : {M : Type 1} → statement M
 transfer-after-spec =
     tie.close
-    (tie.spec
-    (λ c. search needs)
-    (λ c. search needs)
-    (λ c κs. search needs)
-    (λ c. search needs)
-    (λ c. search needs)
-    returns
-    returns-2
-    returns-3
-    (λ c. search needs))
+    (tie.spec (λ c. search needs) (λ c. search needs) (λ c κs. search needs) (λ c. search needs) (λ c. search needs)
+    (λ c. rw (c .enum-told .given .1)) (λ c. rw (c .before .before .j .given .1, c .code .ensures .0, c .code .ensures .1))
+    (λ c. rw (c .enum-told2 .given .1)) (λ c. search needs))

@@ -5,13 +5,8 @@ use borrow.Author.Needs.{needs}
 use Rattle.command.proofs.controller.in_rule.Statement.{statement}
 use Rattle.command.proofs.controller.in_rule.Tie as tie
 
-returns : tie.Need-returns
-returns c = ap₂ _&&_ (ap₂ _&&_ (c .before .before .settings-in-rule .ensures) (c .before .in-rule .ensures)) (c .packet-in-rule .ensures)
-
 pub in-rule-spec : {M : Type 1} → statement M
 in-rule-spec =
-    tie.close (tie.spec
-    (λ c κs. search needs)
-    (λ c κs. search needs)
-    (λ c κs. search needs)
-    returns)
+    tie.close
+    (tie.spec (λ c κs. search needs) (λ c κs. search needs) (λ c κs. search needs)
+    (λ c. ap₂ _&&_ (ap₂ _&&_ (c .before .before .settings-in-rule .ensures) (c .before .in-rule .ensures)) (c .packet-in-rule .ensures)))

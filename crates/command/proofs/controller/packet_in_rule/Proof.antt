@@ -1,18 +1,11 @@
 -- `packet_in_rule` meets its contract.
-use Rattle.command.specs.Controller.{packetInRule}
 use borrow.Author.Needs.{needs}
+use Rattle.command.specs.Controller.{packetInRule}
 use Rattle.command.proofs.controller.packet_in_rule.Statement.{statement}
 use Rattle.command.proofs.controller.packet_in_rule.Tie as tie
 
-returns : tie.Need-returns
-unfolding packetInRule
-returns c = rw (c .word .ensures .0)
-
 pub packet-in-rule-spec : {M : Type 1} → statement M
+unfolding packetInRule
 packet-in-rule-spec =
-    tie.close (tie.spec
-    (λ c. search needs)
-    (λ c. search needs)
-    (λ c κs. search needs)
-    (λ c. search needs)
-    returns)
+    tie.close
+    (tie.spec (λ c. search needs) (λ c. search needs) (λ c κs. search needs) (λ c. search needs) (λ c. rw (c .word .ensures .0)))

@@ -1,20 +1,17 @@
 -- `put_list` meets its contract. The loop's invariant: the writes of the commands passed stand at the start of the output.
 use Prim.Native.Nat.{ℕ, _≤_, _-_, _+_}
 use mathlib.Core.Path.{_≡_, refl, ap, sym, _∙_}
-use native.Mathlib.Omega.{arith}
-use borrow.Author.Needs.{needs}
 use mathlib.Core.List.{List, _++_}
-use borrow.Rule.Slice.PartMut.{putMid}
+use native.Mathlib.Omega.{arith}
 use lib.ListN.{length, take, drop, length-take, length-drop, length-append}
+use borrow.Author.Needs.{needs}
+use borrow.Rule.Slice.PartMut.{putMid}
 use Rattle.packet.specs.Packet.{sum}
 use Rattle.packet.specs.Writer.{written}
 use Rattle.packet.proofs.WriterLaws.{written-none, written-part, length-written-to}
 use Rattle.command.specs.Table.{table, commandAt, sizeOf}
-use Rattle.command.specs.Encoder.{writePacket, encoded, listOf, standardList}
-use Rattle.command.specs.Settings.{valuesOf}
-use Rattle.command.specs.Value.{dataOf, valueFrom}
-use Rattle.command.specs.declared.settings.Settings.{Settings}
-use Rattle.command.specs.declared.table.Command.{Command}
+use Rattle.command.specs.Value.{dataOf}
+use Rattle.command.specs.Encoder.{writePacket, listOf, standardList}
 use Rattle.command.specs.declared.table.Command.the-variants.{SequenceRun}
 use Rattle.command.proofs.encoder.Lists.{list-size, list-more, list-left, write-most, encoded-value, sizes}
 use Rattle.command.proofs.encoder.put_list.Statement.{statement}
@@ -30,12 +27,7 @@ Inv-loop out₀ s at₀ k₀ out at k =
 abbrev μ-loop : tie.MeasureT-loop
 μ-loop out₀ s at₀ k₀ out at k = 9 - k
 
--- nothing is written yet
-start : (out : List ℕ) (s : Settings) → (0 ≤ 9) × (length out ≡ length out) × (0 ≡ length (listOf (take 0 table) s)) × (out ≡ written (listOf (take 0 table) s) out)
-unfolding listOf
-start out s = (omega arith, refl, refl, sym (written-none out))
-
--- the output with p behind b: p was written to the part that lies behind b
+-- the output with p after b: p was written to the part that lies after b
 more : (b p o out : List ℕ) (at : ℕ) (part : List ℕ) → at ≡ length b → out ≡ written b o → length b ≤ length o
     → part ≡ written p (take (length out - at) (drop at out))
     → putMid at (length out - at) out part ≡ written (b ++ p) o
@@ -50,11 +42,7 @@ wrote : (c : tie.After-put Inv-loop μ-loop)
 wrote c =
     let v = c .before .before in
     let l = c .before .before .before .before .before in
-    let a = l .before .before .args in
-    let e : encoded (v .value-of .result) ≡ writePacket (commandAt (l .loop .k)) (dataOf (commandAt (l .loop .k)) (a .s)) =
-    ap encoded (v .value-of .ensures ∙ ap (λ (d : Command). valueFrom d (valuesOf d (a .s))) (v .before .at .ensures))
-    ∙ encoded-value (commandAt (l .loop .k)) (a .s) in
-    (c .put .ensures .0 ∙ ap length e, c .put .ensures .1 ∙ ap (λ (b : List ℕ). written b (take (length (l .loop .out) - l .loop .at) (drop (l .loop .at) (l .loop .out)))) e)
+    rw (v .value-of .ensures, v .before .at .ensures, encoded-value (commandAt (l .loop .k)) (l .before .before .args .s)) at (c .put .ensures)
 
 -- where the next packet goes there is room for it
 room : (c : tie.In-loop Inv-loop μ-loop) → c .before .loop .at + 25 ≤ length (c .before .loop .out)
@@ -65,18 +53,13 @@ room c =
       arith,
       c .before .loop .inv .1,
       c .before .loop .inv .2 ∙ list-size (take (c .before .loop .k) table) (a .s),
-      list-left table (c .before .loop .k) (c .loop-test .taken),
+      list-left table (c .before .loop .k) (omega (arith, c .loop-test .taken)),
       c .before .before .before .pre,
     )
 
 loop-holds : tie.Need-loop-holds Inv-loop μ-loop
-loop-holds c = start (c .before .args .out .now) (c .before .args .s)
-
-sub-put : tie.Need-sub-put Inv-loop μ-loop
-sub-put c = omega (arith, room (c .before .before))
-
-part-put-start : tie.Need-part-put-start Inv-loop μ-loop
-part-put-start c = omega (arith, room (c .before .before))
+unfolding listOf
+loop-holds c = (omega arith, refl, refl, sym (written-none (c .before .args .out .now)))
 
 put-requires : tie.Need-put-requires Inv-loop μ-loop
 put-requires c κs = simp (length-take, length-drop) (omega (arith, room (c .before .before .before)))
@@ -115,19 +98,5 @@ returns c =
 pub put-list-spec : {M : Type 1} → statement M
 put-list-spec =
     tie.close
-    (tie.spec
-    Inv-loop
-    μ-loop
-    loop-holds
-    (λ c κs. search needs)
-    (λ c κs. search needs)
-    sub-put
-    part-put-start
-    (λ c. search needs)
-    put-requires
-    add-at
-    (λ c. search needs)
-    (λ c. search needs)
-    loop-again
-    (λ c. search needs)
-    returns)
+    (tie.spec Inv-loop μ-loop loop-holds (λ c κs. search needs) (λ c κs. search needs) (λ c. omega (arith, room (c .before .before))) (λ c. omega (arith, room (c .before .before))) (λ c. search needs)
+    put-requires add-at (λ c. search needs) (λ c. search needs) loop-again (λ c. search needs) returns)

@@ -8,8 +8,8 @@ use mathlib.Core.List.{List}
 use lib.ListN.{length}
 use Rattle.packet.specs.Receiver.{Received, receivedOf, receiving}
 use Rattle.command.specs.Controller.{heldIn, inRule}
-use Rattle.command.specs.Inner.{controllerOf}
-use Rattle.command.specs.Endpoint.{judgedIn, responseIn, After, waiting, settled, receiveCall}
+use Rattle.command.specs.Inner.{controllerOf, settled}
+use Rattle.command.specs.Endpoint.{judgedIn, responseIn, After, waiting, receiveCall}
 use Rattle.command.specs.declared.controller.Controller.{Controller}
 use Rattle.command.proofs.controller.Laws.{rule-parts}
 use borrow.Author.Needs.{needs}

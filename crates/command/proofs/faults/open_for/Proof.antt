@@ -10,10 +10,4 @@ returns-2 c =
     rw (e .before .found .given .1, d .before .before .code .ensures .0, d .before .before .code .ensures .1)
 
 pub open-for-spec : {M : Type 1} → statement M
-open-for-spec =
-    tie.close (tie.spec
-    (λ c. search needs)
-    (λ c. search needs)
-    (λ c. search needs)
-    (λ c κs. search needs)
-    returns-2)
+open-for-spec = tie.close (tie.spec (λ c. search needs) (λ c. search needs) (λ c. search needs) (λ c κs. search needs) returns-2)

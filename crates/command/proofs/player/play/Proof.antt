@@ -1,30 +1,24 @@
 -- `play` meets its contract. The loop's invariant: what is left of the bytes goes on from where the head is.
-use Prim.Native.Nat.{ℕ, _≤_, _<_, _-_, _+_}
-use mathlib.Core.Path.{_≡_, refl, sym, ap, subst, _∙_}
-use mathlib.Core.Bool.{Bool, true, cond, _&&_}
+use Prim.Native.Nat.{ℕ, _≤_, _<_, _-_}
+use mathlib.Core.Path.{_≡_, refl, sym, ap, _∙_}
+use mathlib.Core.Bool.{true}
+use mathlib.Core.List.{List, [], _∷_}
 use native.Mathlib.Omega.{arith}
+use lib.ListN.{length, take, drop, length-drop}
+use lib.Seq.{take-all}
 use borrow.Author.Needs.{needs}
 use borrow.Author.Tests.{not-true, not-false}
 use denote.Ref.{now}
-use types.Run.{OneOf, miss}
 use denote.Enum.Declared.{tagOf}
-use mathlib.Core.List.{List, [], _∷_}
-use lib.Dec.{eqb}
-use lib.ListN.{length, getD, take, drop, length-drop}
-use lib.Seq.{take-all}
-use Rattle.packet.specs.Packet.{writeResponse}
-use Rattle.packet.specs.Receiver.{fresh, zeros}
+use types.Run.{OneOf, miss}
+use Rattle.packet.specs.Receiver.{zeros}
 use Rattle.command.specs.Rules.{settingsInRule}
-use Rattle.command.specs.declared.settings.Settings.{Settings}
-use Rattle.command.specs.Player.{play, clean}
-use Rattle.command.specs.Controller.{noTransfer}
-use Rattle.command.specs.Endpoint.{Answers, outcomeOf, After, receiveCall}
-use Rattle.command.specs.declared.controller.Controller.{Controller}
+use Rattle.command.specs.Endpoint.{Answers, outcomeOf, After}
+use Rattle.command.specs.Inner.{controllerOf}
 use Rattle.command.specs.declared.endpoint.Answer.{Answer}
 use Rattle.command.specs.declared.endpoint.Answer.the-variants.{Waiting, Answered, ShortOutput, OutOfRule}
 use Rattle.command.proofs.endpoint.Answer.{the-type}
-use Rattle.command.specs.Inner.{controllerOf}
-use Rattle.command.proofs.player.Turns.{Going, going-start, going-packet, going-end, going-done, ready-fresh, between-fresh}
+use Rattle.command.proofs.player.Turns.{Going, Turn, going-start, going-packet, going-end, going-done}
 use Rattle.command.proofs.player.play.Statement.{statement}
 use Rattle.command.proofs.player.play.Tie as tie
 
@@ -34,49 +28,35 @@ Inv-loop b c₀ hold₀ out₀ good₀ at₀ c hold out good at = (at ≤ length
 abbrev μ-loop : tie.MeasureT-loop
 μ-loop b c₀ hold₀ out₀ good₀ at₀ c hold out good at = length b - at
 
--- a fresh receiver, before any byte
-begin : (s : Settings) (b : List ℕ) → settingsInRule s ≡ true → Going s b (record { settings = s; transfer = noTransfer; receiver = fresh }) true 0
-unfolding zeros
-begin s b r = going-start s b (record { settings = s; transfer = noTransfer; receiver = fresh }) (ready-fresh s r) between-fresh refl
+-- what the call in the loop answered and left
+abbrev served : tie.After-serve Inv-loop μ-loop → After
+served c =
+    record {
+      answer = outcomeOf (c .serve .result .answer);
+      controller = controllerOf (c .serve .result .parts) (c .serve .last .1 .0);
+      output = c .serve .last .1 .1 .1 .0;
+    }
 
--- the call in the loop, on the bytes that are left
-called : (c : tie.After-serve Inv-loop μ-loop)
+-- it is the receive call on the bytes that are left
+turn : (c : tie.After-serve Inv-loop μ-loop)
     → let l = c .before .before .before .before .before in
-    let b = now (l .before .before .before .before .args .b) in
-    let r = receiveCall (controllerOf (l .loop .c) (l .loop .hold)) (drop (l .loop .at) b) (l .loop .out) in
-    (outcomeOf (c .serve .result .answer) ≡ r .answer) × (controllerOf (c .serve .result .parts) (c .serve .last .1 .0) ≡ r .controller) × (c .serve .last .1 .1 .1 .0 ≡ r .output)
-called c =
+    let a = l .before .before .before .before .args in
+    Turn (a .s) (now (a .b)) (l .loop .out) (controllerOf (l .loop .c) (l .loop .hold)) (l .loop .good) (l .loop .at) (served c)
+turn c =
     let l = c .before .before .before .before .before in
     let b = now (l .before .before .before .before .args .b) in
     let w : take (length b - l .loop .at) (drop (l .loop .at) b) ≡ drop (l .loop .at) b =
     take-all (length b - l .loop .at) (drop (l .loop .at) b) (omega (arith, length-drop (l .loop .at) b)) in
-    let e = ap (λ (x : List ℕ). receiveCall (controllerOf (l .loop .c) (l .loop .hold)) x (l .loop .out)) w in
-    let f = c .serve .ensures in
-    (f .0 ∙ ap (λ (r : After). r .answer) e, f .1 ∙ ap (λ (r : After). r .controller) e, f .2 ∙ ap (λ (r : After). r .output) e)
+    record {
+      going = l .loop .inv .2;
+      room = omega (arith, l .loop .inv .1);
+      left = c .before .before .before .before .loop-test .taken;
+      call = rw (c .serve .ensures .0, c .serve .ensures .1, c .serve .ensures .2, w);
+    }
 
 -- the output keeps its length
 out-length : (c : tie.After-serve Inv-loop μ-loop) → length (c .serve .last .1 .1 .1 .0) ≡ 64
 out-length c = omega (arith, c .serve .kept .1 .1 .1 .0, c .before .before .before .before .before .loop .inv .1)
-
-moved : {s : Settings} {b o o′ : List ℕ} {c c′ : Controller} (good : Bool) {n : ℕ} → c′ ≡ c → o′ ≡ o
-    → Going s b c (good && eqb (getD o 0 0) writeResponse) n → Going s b c′ (good && eqb (getD o′ 0 0) writeResponse) n
-moved {s} {b} {o} {o′} {c} {c′} good {n} e f g =
-    subst (λ (x : Controller). Going s b x (good && eqb (getD o′ 0 0) writeResponse) n) (sym e) (subst (λ (x : List ℕ). Going s b c (good && eqb (getD x 0 0) writeResponse) n) (sym f) g)
-
--- a turn that completes a packet
-packet-turn : (c : tie.After-serve Inv-loop μ-loop) (n m : ℕ) → c .serve .result .answer ≡ Answered n m
-    → let l = c .before .before .before .before .before in
-    let a = l .before .before .before .before .args in
-    (1 ≤ n) × (l .loop .at + n ≤ length (now (a .b)))
-    × Going (a .s) (now (a .b)) (controllerOf (c .serve .result .parts) (c .serve .last .1 .0)) (l .loop .good && eqb (getD (c .serve .last .1 .1 .1 .0) 0 0) writeResponse) (l .loop .at + n)
-packet-turn c n m e =
-    let l = c .before .before .before .before .before in
-    let a = l .before .before .before .before .args in
-    let k = called c in
-    let t =
-    going-packet (a .s) (now (a .b)) (l .loop .out) (controllerOf (l .loop .c) (l .loop .hold)) (l .loop .good) (l .loop .at) (l .loop .inv .2) (omega (arith, l .loop .inv .1)) (c .before .before .before .before .loop-test .taken) n m
-    (sym (k .0) ∙ ap outcomeOf e) in
-    (t .0, t .1, moved (l .loop .good) (k .1) (k .2) (t .2))
 
 abbrev others : List ℕ
 others = 0 ∷ 2 ∷ 3 ∷ []
@@ -86,19 +66,6 @@ not-answered (Waiting k) h n m e = let z : _≡_ {A = ℕ} 0 1 = cc in omega ari
 not-answered (Answered k j) h n m e = absurd (miss others 1 tt h)
 not-answered ShortOutput h n m e = let z : _≡_ {A = ℕ} 0 1 = cc in omega arith
 not-answered OutOfRule h n m e = let z : _≡_ {A = ℕ} 0 1 = cc in omega arith
-
--- a turn that completes none
-end-turn : (c : tie.After-serve Inv-loop μ-loop) → OneOf others (tagOf the-type (c .serve .result .answer))
-    → let l = c .before .before .before .before .before in
-    let a = l .before .before .before .before .args in
-    Going (a .s) (now (a .b)) (controllerOf (c .serve .result .parts) (c .serve .last .1 .0)) (l .loop .good) (length (now (a .b)))
-end-turn c h =
-    let l = c .before .before .before .before .before in
-    let a = l .before .before .before .before .args in
-    let k = called c in
-    subst (λ (x : Controller). Going (a .s) (now (a .b)) x (l .loop .good) (length (now (a .b)))) (sym (k .1))
-    (going-end (a .s) (now (a .b)) (l .loop .out) (controllerOf (l .loop .c) (l .loop .hold)) (l .loop .good) (l .loop .at) (l .loop .inv .2) (omega (arith, l .loop .inv .1)) (c .before .before .before .before .loop-test .taken)
-    (λ n m e. not-answered (c .serve .result .answer) h n m (k .0 ∙ e)))
 
 -- the settings are in rule past the test
 ruled : (c : tie.Else1 Inv-loop μ-loop) → settingsInRule (c .before .before .before .args .s) ≡ true
@@ -113,7 +80,7 @@ loop-holds : tie.Need-loop-holds Inv-loop μ-loop
 unfolding zeros
 loop-holds c =
     let a = c .before .before .before .args in
-    (omega arith, refl, begin (a .s) (now (a .b)) (ruled c))
+    (omega arith, refl, going-start (a .s) (now (a .b)) (ruled c))
 
 slice-aggregate-serve : tie.Need-slice-aggregate-serve Inv-loop μ-loop
 slice-aggregate-serve c = sym (c .before .before .before .before .loop .inv .1)
@@ -126,50 +93,35 @@ add-at c =
     let k = c .before .before .before .before .before in
     let s = k .before .before .before .before .before .before .before .before .before in
     let n : length (now (s .args .b)) < 18446744073709551616 = search (needs, s .good .1) in
-    omega (arith, n, packet-turn k _ _ (c .before .answer .given .1) .1)
+    omega (arith, n, going-packet (turn k) _ _ (ap outcomeOf (c .before .answer .given .1)) .1)
 
 loop-less : tie.Need-loop-less Inv-loop μ-loop
-loop-less c = omega (arith, packet-turn (c .before .before .before .before .before) _ _ (c .before .answer .given .1) .0, packet-turn (c .before .before .before .before .before) _ _ (c .before .answer .given .1) .1)
+loop-less c =
+    let t = going-packet (turn (c .before .before .before .before .before)) _ _ (ap outcomeOf (c .before .answer .given .1)) in
+    omega (arith, t .0, t .1)
 
 loop-again : tie.Need-loop-again Inv-loop μ-loop
 loop-again c =
     let k = c .before .before .before .before .before in
-    let t = packet-turn k _ _ (c .before .answer .given .1) in
+    let t = going-packet (turn k) _ _ (ap outcomeOf (c .before .answer .given .1)) in
     (t .1, out-length k, t .2)
 
 loop-again-2 : tie.Need-loop-again-2 Inv-loop μ-loop
 loop-again-2 c =
     let k = c .before .before .before in
-    (omega arith, out-length k, end-turn k (c .match .keys2))
+    (omega arith, out-length k, going-end (turn k) (not-answered (k .serve .result .answer) (c .match .keys2)))
 
 returns-2 : tie.Need-returns-2 Inv-loop μ-loop
 returns-2 c =
     let l = c .before .before .before .before in
     let a = l .before .before .before .before .args in
     let e : l .loop .at ≡ length (now (a .b)) = omega (arith, l .loop .inv .0) in
-    let d = going-done (a .s) (now (a .b)) (controllerOf (l .loop .c) (l .loop .hold)) (l .loop .good) (subst (λ (n : ℕ). Going (a .s) (now (a .b)) (controllerOf (l .loop .c) (l .loop .hold)) (l .loop .good) n) e (l .loop .inv .2)) in
-    let t = sym (ruled (l .before)) in
-    (d .0 ∙ ap (λ (x : Bool). cond x (play (a .s) (now (a .b)) .settings) (a .s)) t, d .1 ∙ ap (λ (x : Bool). x && clean (a .s) (now (a .b))) t)
+    let d = going-done (a .s) (now (a .b)) (controllerOf (l .loop .c) (l .loop .hold)) (l .loop .good) (rw e at (l .loop .inv .2)) in
+    rw (ruled (l .before)) d
 
 pub play-spec : {M : Type 1} → statement M
 play-spec =
     tie.close
-    (tie.spec
-    Inv-loop
-    μ-loop
-    (λ c κs. search needs)
-    returns
-    loop-holds
-    (λ c. search needs)
-    (λ c. search needs)
-    (λ c. search needs)
-    slice-aggregate-serve
-    (λ c κs. search needs)
-    (λ c. search needs)
-    array-read-good
-    add-at
-    loop-less
-    loop-again
-    (λ c. omega arith)
-    loop-again-2
-    returns-2)
+    (tie.spec Inv-loop μ-loop (λ c κs. search needs) returns loop-holds (λ c. search needs) (λ c. search needs)
+    (λ c. search needs) slice-aggregate-serve (λ c κs. search needs) (λ c. search needs) array-read-good add-at loop-less
+    loop-again (λ c. omega arith) loop-again-2 returns-2)

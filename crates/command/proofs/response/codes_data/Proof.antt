@@ -1,12 +1,12 @@
--- `codes_data` meets its contract: a byte behind the others for each code that holds.
+-- `codes_data` meets its contract: a byte after the others for each code that holds.
 use Prim.Native.Nat.{ℕ}
 use mathlib.Core.Path.{_≡_, refl}
 use mathlib.Core.Bool.{Bool, true, false}
 use mathlib.Core.List.{List, [], _++_}
 use native.Mathlib.Omega.{arith}
+use borrow.Author.Needs.{needs}
 use Rattle.command.specs.Faults.{listIf, codesOf}
 use Rattle.command.specs.declared.faults.Codes.{Codes}
-use borrow.Author.Needs.{needs}
 use Rattle.command.proofs.response.codes_data.Statement.{statement}
 use Rattle.command.proofs.response.codes_data.Tie as tie
 
@@ -15,7 +15,7 @@ unfolding listIf
 list-append true n l m = refl
 list-append false n l m = refl
 
--- the codes, one behind the other
+-- the codes, one after the other
 listed : (k : Codes) {a b c d e f g : List ℕ}
     → a ≡ listIf (k .command) 0x02 []
     → b ≡ a ++ listIf (k .value) 0x03 []
@@ -43,12 +43,5 @@ returns c =
 pub codes-data-spec : {M : Type 1} → statement M
 codes-data-spec =
     tie.close
-    (tie.spec
-    (λ c κs. search needs)
-    (λ c κs. search needs)
-    (λ c κs. search needs)
-    (λ c κs. search needs)
-    (λ c κs. search needs)
-    (λ c κs. search needs)
-    (λ c κs. search needs)
-    returns)
+    (tie.spec (λ c κs. search needs) (λ c κs. search needs) (λ c κs. search needs) (λ c κs. search needs) (λ c κs. search needs)
+    (λ c κs. search needs) (λ c κs. search needs) returns)

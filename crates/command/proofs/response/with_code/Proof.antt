@@ -5,8 +5,8 @@ use native.Mathlib.Numerals.{add-one}
 use native.Mathlib.Omega.{arith}
 use lib.ListN.{length}
 use lib.Seq.{take-suc-set}
-use Rattle.command.specs.Inner.{contents}
 use borrow.Author.Needs.{needs}
+use Rattle.command.specs.Inner.{contents}
 use Rattle.command.proofs.response.with_code.Statement.{statement}
 use Rattle.command.proofs.response.with_code.Tie as tie
 
@@ -20,9 +20,4 @@ returns-2 : tie.Need-returns-2
 returns-2 c = rw (c .if1 .left, append-nil (contents (c .before .args .d))) (refl, omega arith)
 
 pub with-code-spec : {M : Type 1} → statement M
-with-code-spec =
-    tie.close (tie.spec
-    (λ c. search needs)
-    (λ c. search needs)
-    returns
-    returns-2)
+with-code-spec = tie.close (tie.spec (λ c. search needs) (λ c. search needs) returns returns-2)

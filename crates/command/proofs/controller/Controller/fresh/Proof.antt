@@ -4,12 +4,7 @@ use Rattle.packet.specs.Receiver.{zeros}
 use Rattle.command.specs.Settings.{factory}
 use Rattle.command.proofs.controller.Controller.fresh.Statement.{statement}
 use Rattle.command.proofs.controller.Controller.fresh.Tie as tie
-use Rattle.command.proofs.controller.Controller.fresh.Reads as reads
-use Rattle.command.proofs.controller.Controller.fresh.Lts as lts
-
-returns : tie.Need-returns
-unfolding factory zeros
-returns c = refl
 
 pub fresh-spec : {M : Type 1} → statement M
-fresh-spec = tie.close (tie.spec returns)
+unfolding factory zeros
+fresh-spec = tie.close (tie.spec (λ c. refl))

@@ -3,12 +3,7 @@ use mathlib.Core.Path.{refl}
 use Rattle.command.specs.Faults.{anyFault}
 use Rattle.command.proofs.faults.Codes.any.Statement.{statement}
 use Rattle.command.proofs.faults.Codes.any.Tie as tie
-use Rattle.command.proofs.faults.Codes.any.Reads as reads
-use Rattle.command.proofs.faults.Codes.any.Lts as lts
-
-returns : tie.Need-returns
-unfolding anyFault
-returns c = refl
 
 pub any-spec : {M : Type 1} → statement M
-any-spec = tie.close (tie.spec returns)
+unfolding anyFault
+any-spec = tie.close (tie.spec (λ c. refl))

@@ -2,14 +2,9 @@
 use borrow.Author.Tests.{eq-eqb, ne-eqb}
 use Rattle.command.proofs.transfer.TransferState.held.Statement.{statement}
 use Rattle.command.proofs.transfer.TransferState.held.Tie as tie
-use Rattle.command.proofs.transfer.TransferState.held.Reads as reads
-use Rattle.command.proofs.transfer.TransferState.held.Lts as lts
-
-returns : tie.Need-returns
-returns c = rw (eq-eqb (c .before .before .args .self .active) 0 (c .if1 .taken))
-
-returns-2 : tie.Need-returns-2
-returns-2 c = rw (ne-eqb (c .before .before .args .self .active) 0 (c .if1 .left))
 
 pub held-spec : {M : Type 1} → statement M
-held-spec = tie.close (tie.spec returns returns-2)
+held-spec =
+    tie.close
+    (tie.spec (λ c. rw (eq-eqb (c .before .before .args .self .active) 0 (c .if1 .taken)))
+    (λ c. rw (ne-eqb (c .before .before .args .self .active) 0 (c .if1 .left))))

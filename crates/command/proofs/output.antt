@@ -1,2 +1,0 @@
--- The laws of output.
-pub mod Laws
