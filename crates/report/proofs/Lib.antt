@@ -1,4 +1,2 @@
 -- The laws of report.
-pub mod Demand3
-pub mod Refusals
 pub mod Examples

@@ -6,11 +6,10 @@ use mathlib.Core.Bool.{true}
 use mathlib.Core.List.{List, [], _∷_, _++_}
 use lib.ListN.{length}
 use Rattle.packet.specs.Number.{bytesOf}
-use Rattle.packet.specs.Stream.{packets, rest}
 use Rattle.command.specs.Settings.{factory}
 use Rattle.command.specs.declared.settings.Settings.{Settings}
 use Rattle.command.specs.Transfer.{Closed}
-use Rattle.command.specs.Player.{from, judgements, play, allAcknowledged}
+use Rattle.command.specs.Player.{judgementsOn, play, allAcknowledged, halfSent}
 use Rattle.command.specs.Encoder.{standardList}
 use Rattle.report.specs.Report.{Trial, scoreAt, endFrom, Verdict, Accepted, verdict}
 
@@ -41,9 +40,9 @@ pub record FirstLowest (ts : List Trial) (k : ℕ) : Type 0 where
 
 -- Played from these factory values, the packets are each acknowledged, and no transfer and no packet is left half sent.
 pub record Ships (f : Settings) (b : List ℕ) : Type 0 where
-  pub acknowledged : allAcknowledged (judgements (from f) (packets b)) ≡ true
+  pub acknowledged : allAcknowledged (judgementsOn f b) ≡ true
   pub closed : play f b .transfer ≡ Closed
-  pub finished : rest b ≡ []
+  pub finished : halfSent b ≡ []
 
 -- The claim of the report r: trial k is its winner, with this score and these end settings.
 pub record Claim (r : List ℕ) (k score : ℕ) (s : Settings) : Type 0 where

@@ -1,3 +1,0 @@
--- The laws of verdict.
-pub mod Flat
-pub mod Laws
