@@ -1,2 +1,4 @@
 -- The laws of report.
+pub mod Demand3
+pub mod Refusals
 pub mod Examples

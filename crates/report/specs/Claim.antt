@@ -18,15 +18,21 @@ unfoldable pub recordOf : ℕ → List ℕ → List ℕ
 recordOf kind body = bytesOf 2 (length body) ++ (bytesOf 2 kind ++ body)
 
 -- kind 2: score, 4 bytes; packet bytes, possibly none
+abbrev pub trialOf : Trial → List ℕ
+trialOf t = recordOf 2 (bytesOf 4 (t .score) ++ t .bytes)
+
 unfoldable pub trialRecords : List Trial → List ℕ
 trialRecords [] = []
-trialRecords (t ∷ ts) = recordOf 2 (bytesOf 4 (t .score) ++ t .bytes) ++ trialRecords ts
+trialRecords (t ∷ ts) = trialOf t ++ trialRecords ts
 
--- The layout of a report. In order: one of kind 1 (version, 2 bytes, 1; trial count, 2 bytes); that many of kind 2;
+-- kind 1: version, 2 bytes, 1; trial count, 2 bytes
+abbrev pub headOf : ℕ → List ℕ
+headOf n = recordOf 1 (bytesOf 2 1 ++ bytesOf 2 n)
+
+-- The layout of a report. In order: one of kind 1; that many of kind 2;
 -- one of kind 3 (winner, 2 bytes, from 0); one of kind 4 (shipping packets, possibly none).
 unfoldable pub reportOf : List Trial → ℕ → List ℕ → List ℕ
-reportOf ts k ship =
-    recordOf 1 (bytesOf 2 1 ++ bytesOf 2 (length ts)) ++ (trialRecords ts ++ (recordOf 3 (bytesOf 2 k) ++ recordOf 4 ship))
+reportOf ts k ship = headOf (length ts) ++ (trialRecords ts ++ (recordOf 3 (bytesOf 2 k) ++ recordOf 4 ship))
 
 -- every score is 4 bytes, unsigned
 abbrev pub Scores : List Trial → Type 0

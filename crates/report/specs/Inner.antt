@@ -29,6 +29,7 @@ pub record HeadIs (r : List ℕ) (n : ℕ) : Type 0 where
   pub reads : readHead r ≡ Good n
   pub some : 0 < n
   pub within : 8 ≤ length r
+  pub short : length r ≤ 60000
 
 abbrev pub HeadAt : List ℕ → Outcome → Type 0
 HeadAt r (Value n) = HeadIs r n

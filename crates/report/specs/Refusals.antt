@@ -9,11 +9,7 @@ use Rattle.command.specs.Settings.{factory}
 use Rattle.command.specs.Player.{play}
 use Rattle.report.specs.Record.{sized}
 use Rattle.report.specs.Report.{Trial, endFrom}
-use Rattle.report.specs.Claim.{recordOf, trialRecords, reportOf, Scores, FirstLowest, Ships}
-
--- kind 1: version, 2 bytes, 1; trial count, 2 bytes
-abbrev pub headOf : ℕ → List ℕ
-headOf n = recordOf 1 (bytesOf 2 1 ++ bytesOf 2 n)
+use Rattle.report.specs.Claim.{recordOf, headOf, trialRecords, reportOf, Scores, FirstLowest, Ships}
 
 -- the report begins with kind 1, which counts n trials, and with the records of these trials
 pub record Begins (r : List ℕ) (n : ℕ) (ts : List Trial) (left : List ℕ) : Type 0 where

@@ -6,11 +6,11 @@
 //   end      kinds 3 and 4: the winner, and nothing after the shipping packets
 //   same     equality of settings
 //   verdict  the yes or the no: `check`
-mod record;
-mod head;
-mod trials;
 mod end;
+mod head;
+mod record;
 mod same;
+mod trials;
 mod verdict;
 
 pub use record::Outcome;

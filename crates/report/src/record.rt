@@ -9,8 +9,11 @@ ghost use Rattle.report.specs.declared.record.Outcome.the-variants as ou
 
 // The kinds.
 pub(crate) const HEAD: usize = 1;
+
 pub(crate) const TRIAL: usize = 2;
+
 pub(crate) const WINNER: usize = 3;
+
 pub(crate) const SHIPPING: usize = 4;
 
 // The bytes in front of a body.

@@ -41,4 +41,5 @@ module _ (r : List ℕ) (short : length r ≤ 60000) where
           reads = head-words ∙ pass _ 14 0 _ (eq-eqb v 1 h) (pass _ 15 0 _ (ap not (ne-eqb m 0 z)) refl);
           some = omega (arith, z);
           within = omega (arith, f .within, size-head f);
+          short = short;
         }

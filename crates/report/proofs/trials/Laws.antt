@@ -1,18 +1,57 @@
 -- Trials one after the other: their scores, the first of the lowest-scored, and their end settings.
 use Prim.Native.Nat.{ℕ, zero, suc, _<_, _≤_}
 use mathlib.Core.Path.{_≡_, refl, sym, _∙_, subst}
+use mathlib.Core.Bool.{true}
 use mathlib.Core.List.{List, [], _∷_, _++_}
 use native.Mathlib.Omega.{arith}
-use lib.Dec.{ltb}
-use borrow.Author.Tests.{ltb-true, ltb-false}
+use lib.Dec.{leb, ltb}
+use borrow.Author.Tests.{le-leb, leb-true, lt-ltb, ltb-true, ltb-false}
 use lib.ListN.{length, length-append}
-use Rattle.packet.proofs.Cases.{bool-cases}
+use Rattle.packet.proofs.Cases.{bool-cases, and-left, and-right, and-both}
 use Rattle.command.specs.Settings.{factory}
 use Rattle.command.specs.declared.settings.Settings.{Settings}
 use Rattle.command.specs.Player.{play}
-use Rattle.report.specs.Report.{Trial, scoreAt, endFrom}
+use Rattle.report.specs.Report.{Trial, scoreAt, endFrom, noneBelow, earlierAbove, firstLowest}
 use Rattle.report.specs.Claim.{FirstLowest}
 use Rattle.report.specs.Inner.{First}
+
+-- The test of document 01's sentence, and the sentence.
+none-below : (n : ℕ) (ts : List Trial) → noneBelow n ts ≡ true → (i : ℕ) → i < length ts → n ≤ scoreAt ts i
+unfolding noneBelow scoreAt
+none-below n [] h i l = absurd (omega arith)
+none-below n (t ∷ ts) h zero l = leb-true n (t .score) (and-left (leb n (t .score)) (noneBelow n ts) h)
+none-below n (t ∷ ts) h (suc i) l = none-below n ts (and-right (leb n (t .score)) (noneBelow n ts) h) i (omega arith)
+
+none-below-back : (n : ℕ) (ts : List Trial) → ((i : ℕ) → i < length ts → n ≤ scoreAt ts i) → noneBelow n ts ≡ true
+unfolding noneBelow scoreAt
+none-below-back n [] h = refl
+none-below-back n (t ∷ ts) h =
+    and-both (leb n (t .score)) (noneBelow n ts) (le-leb n (t .score) (h 0 (omega arith))) (none-below-back n ts (λ i l. h (suc i) (omega arith)))
+
+earlier-above : (n k : ℕ) (ts : List Trial) → k ≤ length ts → earlierAbove n k ts ≡ true → (i : ℕ) → i < k → n < scoreAt ts i
+unfolding earlierAbove scoreAt
+earlier-above n k [] m h i l = absurd (omega arith)
+earlier-above n zero (t ∷ ts) m h i l = absurd (omega arith)
+earlier-above n (suc k) (t ∷ ts) m h zero l = ltb-true n (t .score) (and-left (ltb n (t .score)) (earlierAbove n k ts) h)
+earlier-above n (suc k) (t ∷ ts) m h (suc i) l = earlier-above n k ts (omega arith) (and-right (ltb n (t .score)) (earlierAbove n k ts) h) i (omega arith)
+
+earlier-above-back : (n k : ℕ) (ts : List Trial) → ((i : ℕ) → i < k → n < scoreAt ts i) → earlierAbove n k ts ≡ true
+unfolding earlierAbove scoreAt
+earlier-above-back n k [] h = refl
+earlier-above-back n zero (t ∷ ts) h = refl
+earlier-above-back n (suc k) (t ∷ ts) h =
+    and-both (ltb n (t .score)) (earlierAbove n k ts) (lt-ltb n (t .score) (h 0 (omega arith))) (earlier-above-back n k ts (λ i l. h (suc i) (omega arith)))
+
+pub lowest-true : (ts : List Trial) (k : ℕ) → k < length ts → firstLowest ts k ≡ true → FirstLowest ts k
+unfolding firstLowest
+lowest-true ts k l h = record {
+  lowest = none-below (scoreAt ts k) ts (and-left (noneBelow (scoreAt ts k) ts) (earlierAbove (scoreAt ts k) k ts) h);
+  earlier = earlier-above (scoreAt ts k) k ts (omega arith) (and-right (noneBelow (scoreAt ts k) ts) (earlierAbove (scoreAt ts k) k ts) h);
+}
+
+pub lowest-back : (ts : List Trial) (k : ℕ) → FirstLowest ts k → firstLowest ts k ≡ true
+unfolding firstLowest
+lowest-back ts k f = and-both (noneBelow (scoreAt ts k) ts) (earlierAbove (scoreAt ts k) k ts) (none-below-back (scoreAt ts k) ts (f .lowest)) (earlier-above-back (scoreAt ts k) k ts (f .earlier))
 
 -- the first of the lowest is one
 pub lowest-one : (ts : List Trial) (j k : ℕ) → j < length ts → k < length ts → FirstLowest ts j → FirstLowest ts k → j ≡ k

@@ -1,0 +1,4 @@
+-- The laws of verdict.
+pub mod Laid
+pub mod Reading
+pub mod Laws
