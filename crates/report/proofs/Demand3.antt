@@ -1,5 +1,5 @@
 -- Demand 3: a report is accepted exactly when its claim holds, and one that ships the standard list is.
-use Prim.Native.Nat.{ℕ, zero, suc, _+_, _<_, _≤_}
+use Prim.Native.Nat.{ℕ, zero, suc, _+_, _≤_}
 use mathlib.Core.Logic.{_↔_}
 use mathlib.Core.Path.{_≡_, refl, ap, ap₂, sym, _∙_, subst}
 use mathlib.Core.Bool.{Bool, true, false, not, _&&_}
@@ -16,9 +16,9 @@ use Rattle.command.specs.Encoder.{standardList}
 use Rattle.command.proofs.RulesLaws.{Kept, Fits, kept-factory, fits-factory}
 use Rattle.command.proofs.EncoderLists.{standard-plays, standard-clean}
 use Rattle.command.proofs.PlayerLaws.{Holding, holding-play}
-use Rattle.report.specs.Record.{Out, _>>=_, _>>_}
+use Rattle.report.specs.Record.{Out}
 use Rattle.report.specs.Report.{Trial, Report, readReport, scoreAt, endFrom, firstLowest, sameSettings, checkReport, Verdict, Accepted, Refused, verdictOf, verdict}
-use Rattle.report.specs.Claim.{recordOf, headOf, trialOf, trialRecords, reportOf, Scores, FirstLowest, Ships, Claim, Standard, Demand3}
+use Rattle.report.specs.Claim.{recordOf, headOf, trialOf, trialRecords, reportOf, FirstLowest, Ships, Claim, Standard, Demand3}
 use Rattle.report.specs.Refusals.{Fault, F17, F18, F19, Refusal, Later}
 use Rattle.report.proofs.record.Laws.{run, pass}
 use Rattle.report.proofs.same.Laws.{settings-true, settings-refl}

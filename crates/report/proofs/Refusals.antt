@@ -7,20 +7,20 @@ use mathlib.Core.List.{List, _∷_, _++_, append-assoc}
 use native.Mathlib.Omega.{arith}
 use lib.Dec.{eqb}
 use borrow.Author.Tests.{le-leb, lt-leb, eq-eqb, ne-eqb, le-ltb}
-use lib.ListN.{length, take, drop, length-append}
+use lib.ListN.{length, take, length-append}
 use Rattle.packet.specs.Number.{valueOf, bytesOf, Bytes}
 use Rattle.packet.proofs.Cases.{bool-cases}
 use Rattle.packet.proofs.NumberLaws.{value-bytes}
 use Rattle.command.specs.Settings.{factory}
 use Rattle.command.specs.Player.{play, isNil, clean}
-use Rattle.report.specs.Record.{Out, Bad, Good, _>>=_, _>>_, need, sized, reading}
+use Rattle.report.specs.Record.{Bad, Good, _>>=_, _>>_, need, sized, reading}
 use Rattle.report.specs.Report.{Trial, Report, readTrials, readHead, readEnd, readReport, endFrom, firstLowest, sameSettings, checkReport, Refused, verdictOf, verdict}
 use Rattle.report.specs.Claim.{recordOf, headOf, trialRecords, reportOf, Scores, FirstLowest, Ships}
 use Rattle.report.specs.Refusals.{Begins, Due, Head, More, Winner, Shipping, Layout, Fault, F11, F12, F13, F14, F15, F16, F17, F18, F19, F20, Refusal, Long, Later}
 use Rattle.report.proofs.record.Laws.{run, stop, pass, fail, short-body, other-kind, wrong-size}
 use Rattle.report.proofs.same.Laws.{settings-true}
 use Rattle.report.proofs.trials.Laws.{lowest-true, lowest-back}
-use Rattle.report.proofs.verdict.Laid.{length-record, length-before, length-report, count-bound, length-there, kind-there, whole-there, reading-record, head-laid, to-trials, reading-prefix, to-winner, winner-laid, to-shipping, reading-whole}
+use Rattle.report.proofs.verdict.Laid.{length-before, length-report, count-bound, length-there, kind-there, whole-there, reading-record, head-laid, to-trials, reading-prefix, to-winner, winner-laid, to-shipping, reading-whole}
 use Rattle.report.proofs.Demand3.{clean-true, clean-back, Says, verdict-says}
 
 -- A record that is due and is refused ends the reading. Some of the trials are read, and one more is next:

@@ -1,14 +1,13 @@
--- Readings step by step, the five ends of a record, and what the code reads of one at its place.
+-- Readings step by step, the four ends of a record, and what the code reads of one at its place.
 use Prim.Native.Nat.{ℕ, zero, suc, _+_, _*_, _<_, _≤_}
 use mathlib.Core.Path.{_≡_, ap, sym, _∙_, subst}
 use mathlib.Core.Bool.{Bool, true, false, and-false}
 use mathlib.Core.List.{List, [], _∷_, _++_}
 use native.Mathlib.Omega.{arith}
 use native.Mathlib.Nat.{suc-add, zero-add}
-use native.Mathlib.Numerals.{add-one}
 use lib.Dec.{leb}
 use borrow.Author.Tests.{le-leb, lt-leb, eq-eqb, ne-eqb, eqb-true, leb-true}
-use lib.ListN.{length, getD, take, drop, length-drop}
+use lib.ListN.{length, take, drop, length-drop}
 use lib.Seq.{drop-drop, drop-cons, take-nil, take-at, drop-at, length-take-le}
 use Rattle.packet.specs.Number.{valueOf}
 use Rattle.report.specs.Record.{Out, Bad, Good, _>>=_, _>>_, need, sized, reading}
@@ -33,12 +32,8 @@ pub fail : {B : Type 0} (t : Bool) (n p : ℕ) (m : Out B) → t ≡ false → (
 unfolding _>>=_ need
 fail t n p m e = rw e
 
--- The five ends: 11 for the header, 11 for the body, 12, 13, and the record.
+-- The four ends: 11, 12, 13, and the record.
 module _ (kind at : ℕ) (b : List ℕ) where
-  pub short-head : length b < 4 → reading kind at b ≡ Bad 11 at
-  unfolding reading need _>>=_
-  short-head h = rw (lt-leb 4 (length b) h)
-
   pub short-body : length b < 4 + valueOf (take 2 b) → reading kind at b ≡ Bad 11 at
   unfolding reading need _>>=_
   short-body h = rw (lt-leb (4 + valueOf (take 2 b)) (length b) h, and-false (leb 4 (length b)))
@@ -98,7 +93,7 @@ module _ (r : List ℕ) (kind at : ℕ) (fits : at ≤ length r) where
   told e h = subst (RecordAt r kind at) (sym e) h
 
   pub told-header : {o : Outcome} → o ≡ Refused 11 at → length r < at + 4 → RecordAt r kind at o
-  told-header e h = told e (short-head kind at (drop at r) (omega (arith, length-drop at r)))
+  told-header e h = told e (short-body kind at (drop at r) (omega (arith, length-drop at r)))
 
   module _ {n k : ℕ} (is : n ≡ valueOf (take 2 (drop at r))) (of : k ≡ valueOf (take 2 (drop (at + 2) r))) where
     pub told-body : {o : Outcome} → o ≡ Refused 11 at → length r < at + 4 + n → RecordAt r kind at o

@@ -62,18 +62,17 @@ walked-start r h =
 -- One trial more: its score, and the settings that its packets leave.
 module _ {r : List ℕ} {i at n k low score : ℕ} {last s e : Settings} (w : Walked r i at last k low e) (f : RecordIs r 2 at n)
     (scores : score ≡ valueOf (take 4 (drop (at + 4) r))) (plays : s ≡ endSettings last (take (at + 4 + n - (at + 8)) (drop (at + 8) r))) where
-  bytes : List ℕ
+  abbrev bytes : List ℕ
   bytes = take (at + 4 + n - (at + 8)) (drop (at + 8) r)
 
-  one : Trial
+  abbrev one : Trial
   one = record { score = score; bytes = bytes }
 
   played : s ≡ play last bytes .settings
-  unfolding bytes
   played = plays ∙ ap (λ (x : Bool). cond x (play last bytes .settings) last) (w .ruled)
 
   trial-reads : (m : ℕ) → readTrials (suc m) at (drop at r) ≡ (readTrials m (at + 4 + n) (drop (at + 4 + n) r) >>= λ q. Good (onto (one ∷ []) q))
-  unfolding readTrials _>>=_ one bytes
+  unfolding readTrials _>>=_
   trial-reads m =
       let four = size-trial f in
       let eight : at + 4 + 4 ≡ at + 8 = omega arith in
@@ -82,7 +81,6 @@ module _ {r : List ℕ} {i at n k low score : ℕ} {last s e : Settings} (w : Wa
 
   -- whichever is the best then
   more : {k′ low′ : ℕ} {e′ : Settings} → First (w .list ++ (one ∷ [])) k′ low′ e′ → Walked r (i + 1) (at + 4 + n) s k′ low′ e′
-  unfolding one
   more h =
       record {
         list = w .list ++ (one ∷ []);
@@ -101,7 +99,6 @@ module _ {r : List ℕ} {i at n k low score : ℕ} {last s e : Settings} (w : Wa
 
   -- the first trial, or one that scores below the best so far
   pub walked-better : (eqb i 0 || ltb score low) ≡ true → Walked r (i + 1) (at + 4 + n) s i score s
-  unfolding one
   walked-better h =
       let below : (j : ℕ) → j < length (w .list) → score < scoreAt (w .list) j = λ j l.
       let b = w .best (omega arith) in
@@ -114,7 +111,6 @@ module _ {r : List ℕ} {i at n k low score : ℕ} {last s e : Settings} (w : Wa
 
   -- any other
   pub walked-other : (eqb i 0 || ltb score low) ≡ false → Walked r (i + 1) (at + 4 + n) s k low e
-  unfolding one
   walked-other h =
       let some : i ≡ 0 → ⊥ = eqb-false i 0 (or-left (eqb i 0) (ltb score low) h) in
       more (first-stays (w .list) one (ltb-false score low (or-right (eqb i 0) (ltb score low) h)) (w .best (omega (arith, w .count, some))))

@@ -1,11 +1,11 @@
 -- The answer to a report, from what the code read: each refusal, and the yes.
-use Prim.Native.Nat.{ℕ, _+_, _-_, _<_, _≤_}
-use mathlib.Core.Path.{_≡_, refl, ap, ap₂, sym, _∙_, subst}
+use Prim.Native.Nat.{ℕ, _+_, _-_, _<_}
+use mathlib.Core.Path.{_≡_, refl, ap, ap₂, sym, _∙_}
 use mathlib.Core.Bool.{Bool, true, false}
 use mathlib.Core.List.{List}
 use native.Mathlib.Omega.{arith}
 use lib.Dec.{eqb, ltb}
-use borrow.Author.Tests.{eqb-true, eqb-false, ltb-true}
+use borrow.Author.Tests.{eqb-false, ltb-true}
 use lib.ListN.{length, take, drop, length-drop}
 use lib.Seq.{take-all}
 use Rattle.packet.specs.Number.{valueOf, Bytes}
@@ -14,13 +14,13 @@ use Rattle.command.specs.Settings.{factory}
 use Rattle.command.specs.declared.settings.Settings.{Settings}
 use Rattle.command.specs.Player.{play, isNil, clean}
 use Rattle.report.specs.Record.{Out, Bad, Good, _>>=_, _>>_, need, reading}
-use Rattle.report.specs.Report.{Trial, Report, readTrials, readHead, readEnd, readReport, scoreAt, endFrom, firstLowest, sameSettings, checkReport, Verdict, Accepted, verdictOf, verdict, Refused as RefusedWith}
-use Rattle.report.specs.Claim.{FirstLowest, Demand3}
-use Rattle.report.specs.Inner.{HeadIs, HeadAt, BestIs, BestAt, namedAt, WinnerIs, WinnerAt}
+use Rattle.report.specs.Report.{Trial, Report, readTrials, readHead, readEnd, readReport, firstLowest, sameSettings, checkReport, Verdict, Accepted, verdictOf, verdict, Refused as RefusedWith}
+use Rattle.report.specs.Claim.{Demand3}
+use Rattle.report.specs.Inner.{HeadIs, BestIs, namedAt, WinnerIs}
 use Rattle.report.specs.Verdict.{verdictIn, scoreIn, settingsIn}
 use Rattle.report.specs.declared.record.Outcome.{Outcome}
 use Rattle.report.specs.declared.record.Outcome.the-variants.{Value, Refused}
-use Rattle.report.proofs.record.Laws.{run, pass, fail}
+use Rattle.report.proofs.record.Laws.{pass, fail}
 use Rattle.report.proofs.trials.Laws.{lowest-true, lowest-back, lowest-one}
 use Rattle.report.proofs.Demand3.{demand3-of}
 
@@ -33,8 +33,9 @@ module _ (r : List ℕ) (b : Bytes r) where
       → Promised r t score s
   promised-by v t score s e q n f = (demand3-of r (verdictIn t score s) b (q ∙ sym e), n ∙ ap scoreIn (sym e), f ∙ ap settingsIn (sym e))
 
-  pub promised-no : {n p score : ℕ} {s : Settings} {t : Outcome} → verdict r ≡ RefusedWith n p → t ≡ Refused n p → score ≡ 0 → s ≡ factory → Promised r t score s
-  promised-no {n} {p} {score} {s} {t} h e q f = promised-by (RefusedWith n p) t score s h (ap (λ (x : Outcome). verdictIn x score s) e) q f
+  pub promised-no : {n p score : ℕ} {s : Settings} {t why : Outcome} → verdict r ≡ RefusedWith n p → (t ≡ why) × (score ≡ 0) × (s ≡ factory) → why ≡ Refused n p
+      → Promised r t score s
+  promised-no {n} {p} {score} {s} {t} h c e = promised-by (RefusedWith n p) t score s h (ap (λ (x : Outcome). verdictIn x score s) (c .0 ∙ e)) (c .1) (c .2)
 
   pub promised-yes : {k score : ℕ} {s : Settings} {t : Outcome} → verdict r ≡ Accepted k score s → t ≡ Value k → Promised r t score s
   promised-yes {k} {score} {s} {t} h e = promised-by (Accepted k score s) t score s h (ap (λ (x : Outcome). verdictIn x score s) e) refl refl
@@ -92,26 +93,25 @@ shipIn r at = take (length r - (at + 6 + 4)) (drop (at + 6 + 4) r)
 
 -- The trials were read: trial j is the first of the lowest-scored.
 module _ (r : List ℕ) {m at j score : ℕ} {e : Settings} (h : HeadIs r m) (b : BestIs r m at j score e) where
-  ts : List Trial
+  abbrev ts : List Trial
   ts = b .list
 
-  end : Out Report
+  abbrev end : Out Report
   end = readEnd m (record { list = ts; at = at; left = drop at r })
 
   verdict-end : verdict r ≡ verdictOf factory (end >>= checkReport factory)
-  unfolding verdict readReport _>>=_ end ts
+  unfolding verdict readReport _>>=_
   verdict-end = rw (h .reads, b .reads)
 
   -- 17 where another is named
   lowest-no : (k : ℕ) → k < m → (k ≡ j → ⊥) → firstLowest ts k ≡ false
-  unfolding ts
   lowest-no k l n =
       bool-cases (firstLowest ts k)
       (λ y. absurd (n (lowest-one ts k j (omega (arith, b .count)) (b .best .named) (lowest-true ts k (omega (arith, b .count)) y) (b .best .first)))) (λ y. y)
 
   refused-end : (o : Out Report) → end ≡ o → {n x : ℕ} → (o >>= λ p. need (eqb (p .winner) j) 17 at >> Good p) ≡ Bad n x
       → verdictOf factory (o >>= checkReport factory) ≡ RefusedWith n x
-  unfolding verdictOf checkReport _>>=_ end
+  unfolding verdictOf checkReport _>>=_
   refused-end (Bad a c) f g = cc
   refused-end (Good p) f {n} {x} g =
       let of = of-end m at ts (drop at r) p f in
@@ -121,20 +121,19 @@ module _ (r : List ℕ) {m at j score : ℕ} {e : Settings} (h : HeadIs r m) (b 
       ap (verdictOf factory) stops
 
   pub winner-no : {n x : ℕ} → ((us : List Trial) → namedAt r at m j us ≡ Bad n x) → verdict r ≡ RefusedWith n x
-  unfolding namedAt end ts
+  unfolding namedAt
   winner-no g = verdict-end ∙ refused-end end refl (g ts)
 
   -- the trial named is the first of the lowest-scored
   module _ {k : ℕ} (w : WinnerIs r at m j k) where
     verdict-read : verdict r ≡ verdictOf factory (checkReport factory (record { trials = ts; winner = j; shipping = shipIn r at; place = at }))
-    unfolding ts end _>>=_
+    unfolding _>>=_
     verdict-read =
         let ten : at + 6 + 4 ≡ at + 10 = omega arith in
         let all : take (length r - (at + 10)) (drop (at + 10) r) ≡ drop (at + 10) r = take-all (length r - (at + 10)) (drop (at + 10) r) (omega (arith, length-drop (at + 10) r)) in
         verdict-end ∙ rw (w .reads ts, w .named, ten, all)
 
     lowest : firstLowest ts j ≡ true
-    unfolding ts
     lowest = lowest-back ts j (b .best .first)
 
     pub refused-18 : clean factory (shipIn r at) ≡ false → verdict r ≡ RefusedWith 18 (at + 6)
@@ -143,13 +142,13 @@ module _ (r : List ℕ) {m at j score : ℕ} {e : Settings} (h : HeadIs r m) (b 
 
     module _ (yes : clean factory (shipIn r at) ≡ true) where
       pub refused-19 : sameSettings (play factory (shipIn r at) .settings) e ≡ false → verdict r ≡ RefusedWith 19 (at + 6)
-      unfolding verdictOf checkReport ts
+      unfolding verdictOf checkReport
       refused-19 x =
           verdict-read
           ∙ ap (verdictOf factory) (pass _ 17 at _ lowest (pass _ 18 (at + 6) _ yes (fail _ 19 (at + 6) _ (ap (sameSettings (play factory (shipIn r at) .settings)) (sym (b .best .ends)) ∙ x))))
 
       pub accepted-with : sameSettings (play factory (shipIn r at) .settings) e ≡ true → verdict r ≡ Accepted k score e
-      unfolding verdictOf checkReport ts
+      unfolding verdictOf checkReport
       accepted-with same =
           verdict-read
           ∙ ap (verdictOf factory) (pass _ 17 at _ lowest (pass _ 18 (at + 6) _ yes (pass _ 19 (at + 6) _ (ap (sameSettings (play factory (shipIn r at) .settings)) (sym (b .best .ends)) ∙ same) refl)))

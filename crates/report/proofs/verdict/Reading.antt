@@ -4,7 +4,7 @@ use mathlib.Core.Path.{_≡_, refl, ap, ap₂, sym, _∙_, subst}
 use mathlib.Core.Bool.{Bool, true, false, not, _&&_}
 use mathlib.Core.List.{List, [], _∷_, _++_, append-assoc, append-nil}
 use native.Mathlib.Omega.{arith}
-use lib.Dec.{leb, eqb, ltb}
+use lib.Dec.{leb, eqb}
 use borrow.Author.Tests.{leb-true, leb-false, le-leb, eqb-true, eqb-false, ltb-true, ltb-false, not-true}
 use lib.ListN.{length, take, drop, length-append, take-append-drop, length-drop}
 use lib.Seq.{drop-at, drop-drop, length-take-le}
@@ -16,7 +16,7 @@ use Rattle.report.specs.Record.{Out, Bad, Good, _>>=_, _>>_, need, Piece
 use Rattle.report.specs.Report.{Trial, Trials, Report, readTrials, readHead, readEnd, readReport}
 use Rattle.report.specs.Claim.{recordOf, headOf, trialOf, trialRecords, reportOf, Scores}
 use Rattle.report.specs.Refusals.{Begins, Due, Head, More, Winner, Shipping, Layout, Fault, F11, F12, F13, F14, F15, F16, F20, Refusal, Long, Later}
-use Rattle.report.proofs.verdict.Laid.{length-record, length-before, length-report}
+use Rattle.report.proofs.verdict.Laid.{length-record, length-report}
 
 -- A reading ends with a refusal of which R holds, or with a value of which P holds.
 pub data Ends {A : Type 0} (R : ℕ → ℕ → Type 0) (P : A → Type 0) : Out A → Type 0 where

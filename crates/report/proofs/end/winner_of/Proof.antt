@@ -35,9 +35,6 @@ returns c =
     end-no (reportIn s) (a .at) (a .count) (a .best) (o .1)
     (winner-missed (reportIn s) (a .at) (a .count) (a .best) (missed (reportIn s) 3 (a .at) (o .1) (p .record-at .ensures)))
 
-word-at-requires : tie.Need-word-at-requires
-word-at-requires c κs = omega (arith, found-winner c .within, size-winner (found-winner c))
-
 returns-2 : tie.Need-returns-2
 returns-2 c =
     let w = c .before .before in
@@ -45,9 +42,6 @@ returns-2 c =
     let a = s .args in
     end-no (reportIn s) (a .at) (a .count) (a .best) (c .refusal .ensures)
     (end-16 (reportIn s) (a .at) (a .count) (a .best) (found-winner (w .before)) (w .word-at .ensures .0) (c .before .if1 .taken))
-
-record-at-requires-2 : tie.Need-record-at-requires-2
-record-at-requires-2 c κs = omega (arith, found-winner (c .before .before) .within, size-winner (found-winner (c .before .before)))
 
 returns-3 : tie.Need-returns-3
 returns-3 c =
@@ -59,9 +53,6 @@ returns-3 c =
     let o = c .enum-told3 .given in
     end-no (reportIn s) (a .at) (a .count) (a .best) (o .1)
     (shipping-missed (reportIn s) (a .at) (a .count) (a .best) (found-winner (w .before)) (w .word-at .ensures .0) (t .if1 .left) (missed (reportIn s) 4 (a .at + 6) (o .1) (p .record-at2 .ensures)))
-
-add-end-2 : tie.Need-add-end-2
-add-end-2 c = omega (arith, found-shipping (c .before) .within)
 
 returns-4 : tie.Need-returns-4
 returns-4 c =
@@ -96,24 +87,10 @@ returns-6 c =
 pub winner-of-spec : {M : Type 1} → statement M
 winner-of-spec =
     tie.close
-    (tie.spec
-    (λ c κs. search needs)
-    (λ c. search needs)
-    (λ c. search needs)
-    returns
-    (λ c. search needs)
-    word-at-requires
-    (λ c. search needs)
-    (λ c κs. search needs)
-    returns-2
-    record-at-requires-2
-    (λ c. search needs)
-    (λ c. search needs)
-    returns-3
-    (λ c. search needs)
-    add-end-2
-    (λ c κs. search needs)
-    returns-4
-    (λ c κs. search needs)
-    returns-5
-    returns-6)
+    (tie.spec (λ c κs. search needs) (λ c. search needs) (λ c. search needs) returns (λ c. search needs)
+    (λ c κs. omega (arith, found-winner c .within, size-winner (found-winner c))) (λ c. search needs)
+    (λ c κs. search needs) returns-2
+    (λ c κs. omega (arith, found-winner (c .before .before) .within, size-winner (found-winner (c .before .before))))
+    (λ c. search needs) (λ c. search needs) returns-3 (λ c. search needs)
+    (λ c. omega (arith, found-shipping (c .before) .within)) (λ c κs. search needs) returns-4 (λ c κs. search needs)
+    returns-5 returns-6)

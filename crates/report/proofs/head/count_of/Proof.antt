@@ -1,10 +1,9 @@
 -- `count_of` meets its contract.
-use Prim.Native.Nat.{ℕ, _≤_}
-use mathlib.Core.Path.{_≡_, sym, subst}
+use Prim.Native.Nat.{ℕ}
+use mathlib.Core.Path.{sym, subst}
 use mathlib.Core.List.{List}
 use native.Mathlib.Omega.{arith}
 use denote.Ref.{now}
-use lib.ListN.{length}
 use borrow.Author.Needs.{needs}
 use Rattle.report.specs.Inner.{RecordIs, HeadAt}
 use Rattle.report.proofs.record.Laws.{found, missed, size-head}
@@ -29,12 +28,6 @@ returns-2 c =
     let r = reportIn (p .before) in
     let o = c .enum-told2 .given in
     subst (HeadAt r) (sym (o .1)) (head-missed r (p .before .if1 .left) (missed r 1 0 (o .1) (p .record-at .ensures)))
-
-word-at-requires : tie.Need-word-at-requires
-word-at-requires c κs = omega (arith, found-head c .within, size-head (found-head c))
-
-word-at-requires-2 : tie.Need-word-at-requires-2
-word-at-requires-2 c κs = omega (arith, found-head (c .before) .within, size-head (found-head (c .before)))
 
 returns-3 : tie.Need-returns-3
 returns-3 c =
@@ -62,17 +55,7 @@ returns-5 c =
 pub count-of-spec : {M : Type 1} → statement M
 count-of-spec =
     tie.close
-    (tie.spec
-    (λ c κs. search needs)
-    returns
-    (λ c κs. search needs)
-    (λ c. search needs)
-    (λ c. search needs)
-    returns-2
-    word-at-requires
-    word-at-requires-2
-    (λ c κs. search needs)
-    returns-3
-    (λ c κs. search needs)
-    returns-4
-    returns-5)
+    (tie.spec (λ c κs. search needs) returns (λ c κs. search needs) (λ c. search needs) (λ c. search needs) returns-2
+    (λ c κs. omega (arith, found-head c .within, size-head (found-head c)))
+    (λ c κs. omega (arith, found-head (c .before) .within, size-head (found-head (c .before)))) (λ c κs. search needs)
+    returns-3 (λ c κs. search needs) returns-4 returns-5)

@@ -34,9 +34,6 @@ loop-holds c =
     let s = c .before .before in
     (omega arith, subst (λ (x : Settings). Walked (now (s .args .r)) 0 8 x 0 0 x) (sym (c .factory .ensures)) (walked-start (now (s .args .r)) (s .pre .0)))
 
-record-at-requires : tie.Need-record-at-requires Inv-loop μ-loop
-record-at-requires c κs = c .before .loop .inv .1 .within
-
 returns : tie.Need-returns Inv-loop μ-loop
 returns c =
     let o = c .before .enum-told .given in
@@ -45,12 +42,6 @@ returns c =
     let b = c .missing .result in
     subst (λ (x : Outcome). BestAt (reportIn l) (l .before .before .before .args .count) x (b .trial) (b .score) (b .settings)) (sym (c .missing .ensures ∙ o .1))
     (walked-missed (l .loop .inv .1) (p .before .loop-test .taken) (missed (reportIn l) 2 (l .loop .at) (o .1) (p .record-at .ensures)))
-
-add-next-2 : tie.Need-add-next-2 Inv-loop μ-loop
-add-next-2 c = omega (arith, found-trial (c .before) .within)
-
-long-at-requires : tie.Need-long-at-requires Inv-loop μ-loop
-long-at-requires c κs = omega (arith, found-trial (c .before) .within, size-trial (found-trial (c .before)))
 
 -- the packets of a trial stand from byte 8 of its record to its end
 inside : (c : tie.After-long-at Inv-loop μ-loop)
@@ -83,38 +74,17 @@ add-i c =
     let i = turn c in
     omega (arith, i .loop-test .taken, i .before .before .before .before .fits .count)
 
-loop-less : tie.Need-loop-less Inv-loop μ-loop
-loop-less c = omega (arith, turn c .loop-test .taken)
-
-loop-again : tie.Need-loop-again Inv-loop μ-loop
-loop-again c = (omega (arith, turn c .loop-test .taken), again c)
-
 returns-2 : tie.Need-returns-2 Inv-loop μ-loop
 returns-2 c = walked-end (c .before .loop .inv .1) (omega (arith, c .before .loop .inv .0, c .loop-test .left)) (c .before .before .before .before .pre .1)
 
 pub best-of-spec : {M : Type 1} → statement M
 best-of-spec =
     tie.close
-    (tie.spec
-    Inv-loop
-    μ-loop
-    (λ c κs. search needs)
-    loop-holds
-    record-at-requires
-    (λ c. search needs)
-    (λ c. search needs)
-    (λ c κs. search needs)
-    returns
-    (λ c. search needs)
-    add-next-2
-    (λ c. omega (arith, found-trial (c .before) .within))
-    long-at-requires
-    (λ c. omega (arith, inside c, found-trial (c .before .before) .within))
-    (λ c. omega (arith, inside c))
-    (λ c. omega (arith, inside c))
-    (λ c. omega (arith, found-trial (c .before .before) .within))
-    (λ c κs. search needs)
-    add-i
-    loop-less
-    loop-again
+    (tie.spec Inv-loop μ-loop (λ c κs. search needs) loop-holds (λ c κs. c .before .loop .inv .1 .within)
+    (λ c. search needs) (λ c. search needs) (λ c κs. search needs) returns (λ c. search needs)
+    (λ c. omega (arith, found-trial (c .before) .within)) (λ c. omega (arith, found-trial (c .before) .within))
+    (λ c κs. omega (arith, found-trial (c .before) .within, size-trial (found-trial (c .before))))
+    (λ c. omega (arith, inside c, found-trial (c .before .before) .within)) (λ c. omega (arith, inside c))
+    (λ c. omega (arith, inside c)) (λ c. omega (arith, found-trial (c .before .before) .within)) (λ c κs. search needs)
+    add-i (λ c. omega (arith, turn c .loop-test .taken)) (λ c. (omega (arith, turn c .loop-test .taken), again c))
     returns-2)

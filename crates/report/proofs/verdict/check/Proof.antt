@@ -28,46 +28,49 @@ reportIn c = now (c .before .args .r)
 all-bytes : (c : tie.After-shared-slice-known) → Bytes (reportIn c)
 all-bytes c = bytes-at (reportIn c) (λ i. c .shared-slice-known .given i .fits)
 
+-- the places of the calls before
+abbrev start : tie.After-head → tie.After-shared-slice-known
+start h = h .before .before .before
+
+abbrev headOf : tie.After-next → tie.After-head
+headOf n = n .before .before .before .before
+
+abbrev nextOf : tie.After-enum-told3 → tie.After-next
+nextOf d = d .before .before .before .before
+
 -- what each of the three calls read
-head-is : (c : tie.After-head) → HeadIs (reportIn (c .before .before .before)) (c .head .given .0 .0)
-head-is c = subst (HeadAt (reportIn (c .before .before .before))) (c .head .given .1) (c .before .before .count-of .ensures)
+head-is : (h : tie.After-head) → HeadIs (reportIn (start h)) (h .head .given .0 .0)
+head-is h = subst (HeadAt (reportIn (start h))) (h .head .given .1) (h .before .before .count-of .ensures)
 
-best-is : (c : tie.After-next)
-    → let t = c .before .before in
-    let h = t .before .before in
-    let b = t .best-of .result in
-    BestIs (reportIn (h .before .before .before)) (h .head .given .0 .0) (c .next .given .0 .0) (b .trial) (b .score) (b .settings)
-best-is c =
-    let t = c .before .before in
-    let h = t .before .before in
-    let b = t .best-of .result in
-    subst (λ (o : Outcome). BestAt (reportIn (h .before .before .before)) (h .head .given .0 .0) o (b .trial) (b .score) (b .settings)) (c .next .given .1) (t .best-of .ensures)
+best-is : (n : tie.After-next)
+    → let h = headOf n in
+    let b = n .before .before .best-of .result in
+    BestIs (reportIn (start h)) (h .head .given .0 .0) (n .next .given .0 .0) (b .trial) (b .score) (b .settings)
+best-is n =
+    let h = headOf n in
+    let b = n .before .before .best-of .result in
+    subst (λ (o : Outcome). BestAt (reportIn (start h)) (h .head .given .0 .0) o (b .trial) (b .score) (b .settings)) (n .next .given .1) (n .before .before .best-of .ensures)
 
-winner-is : (c : tie.After-enum-told3)
-    → let n = c .before .before .before .before in
-    let t = n .before .before in
-    let h = t .before .before in
-    WinnerIs (reportIn (h .before .before .before)) (n .next .given .0 .0) (h .head .given .0 .0) (t .best-of .result .trial) (c .enum-told3 .given .0 .0)
-winner-is c =
-    let n = c .before .before .before .before in
-    let t = n .before .before in
-    let h = t .before .before in
-    subst (WinnerAt (reportIn (h .before .before .before)) (n .next .given .0 .0) (h .head .given .0 .0) (t .best-of .result .trial)) (c .enum-told3 .given .1) (c .before .before .winner-of .ensures)
+winner-is : (d : tie.After-enum-told3)
+    → let n = nextOf d in
+    let h = headOf n in
+    WinnerIs (reportIn (start h)) (n .next .given .0 .0) (h .head .given .0 .0) (n .before .before .best-of .result .trial) (d .enum-told3 .given .0 .0)
+winner-is d =
+    let n = nextOf d in
+    let h = headOf n in
+    subst (WinnerAt (reportIn (start h)) (n .next .given .0 .0) (h .head .given .0 .0) (n .before .before .best-of .result .trial)) (d .enum-told3 .given .1) (d .before .before .winner-of .ensures)
 
 -- kind 4 begins inside the report, which is short
-room : (c : tie.After-enum-told3)
-    → let n = c .before .before .before .before in
-    let r = reportIn (n .before .before .before .before .before .before .before) in
-    (n .next .given .0 .0 + 10 ≤ length r) × (length r ≤ 60000)
-room c =
-    let h = c .before .before .before .before .before .before .before .before in
-    (winner-is c .within, head-is h .short)
+room : (d : tie.After-enum-told3)
+    → let r = reportIn (start (headOf (nextOf d))) in
+    (nextOf d .next .given .0 .0 + 10 ≤ length r) × (length r ≤ 60000)
+room d = (winner-is d .within, head-is (headOf (nextOf d)) .short)
 
 -- the shipping packets, played from factory values
 abbrev ship : tie.After-play → List ℕ
 ship c =
-    let n = c .before .before .before .before .before .before .before in
-    shipIn (reportIn (n .before .before .before .before .before .before .before)) (n .next .given .0 .0)
+    let n = nextOf (c .before .before .before) in
+    shipIn (reportIn (start (headOf n))) (n .next .given .0 .0)
 
 played : (c : tie.After-play) → (c .play .result .settings ≡ play factory (ship c) .settings) × (c .play .result .clean ≡ clean factory (ship c))
 played c =
@@ -77,123 +80,83 @@ played c =
       c .play .ensures .1 ∙ ap (λ (s : Settings). endClean s (ship c)) f ∙ ap (λ (x : Bool). x && clean factory (ship c)) e,
     )
 
-returns : tie.Need-returns
-returns c =
-    let o = c .before .enum-told .given in
-    let k = c .before .before .before in
-    let r = reportIn (k .before) in
-    promised-no r (all-bytes (k .before)) (head-no r (subst (HeadAt r) (o .1) (k .count-of .ensures)))
-    (c .refused .ensures .0 ∙ o .1) (c .refused .ensures .1) (c .refused .ensures .2)
-
-best-of-requires : tie.Need-best-of-requires
-best-of-requires c κs = (head-is (c .before) .within, head-is (c .before) .some)
-
-returns-2 : tie.Need-returns-2
-returns-2 c =
-    let o = c .before .enum-told2 .given in
-    let t = c .before .before .before in
-    let h = t .before .before in
-    let k = h .before .before .before in
-    let b = t .best-of .result in
-    promised-no (reportIn k) (all-bytes k)
-    (trials-no (reportIn k) (head-is h) (subst (λ (x : Outcome). BestAt (reportIn k) (h .head .given .0 .0) x (b .trial) (b .score) (b .settings)) (o .1) (t .best-of .ensures)))
-    (c .refused2 .ensures .0 ∙ o .1) (c .refused2 .ensures .1) (c .refused2 .ensures .2)
-
-winner-of-requires : tie.Need-winner-of-requires
-winner-of-requires c κs = best-is (c .before) .within
-
-returns-3 : tie.Need-returns-3
-returns-3 c =
-    let o = c .before .enum-told4 .given in
-    let w = c .before .before .before in
-    let n = w .before .before in
-    let t = n .before .before in
-    let h = t .before .before in
-    let k = h .before .before .before in
-    promised-no (reportIn k) (all-bytes k)
-    (winner-no (reportIn k) (head-is h) (best-is n)
-    (subst (WinnerAt (reportIn k) (n .next .given .0 .0) (h .head .given .0 .0) (t .best-of .result .trial)) (o .1) (w .winner-of .ensures)))
-    (c .refused3 .ensures .0 ∙ o .1) (c .refused3 .ensures .1) (c .refused3 .ensures .2)
-
-returns-4 : tie.Need-returns-4
-returns-4 c =
-    let q = c .before .before .before .before in
-    let d = q .before .before .before in
-    let n = d .before .before .before .before in
-    let h = n .before .before .before .before in
-    let k = h .before .before .before in
-    promised-no (reportIn k) (all-bytes k)
-    (refused-18 (reportIn k) (head-is h) (best-is n) (winner-is d) (sym (played q .1) ∙ not-true (q .play .result .clean) (c .before .before .if1 .taken)))
-    (c .refused4 .ensures .0 ∙ c .before .refusal .ensures) (c .refused4 .ensures .1) (c .refused4 .ensures .2)
-
 -- what was shipped is clean, and was compared
 clean-yes : (c : tie.Else1) → clean factory (ship (c .before .before)) ≡ true
 clean-yes c = sym (played (c .before .before) .1) ∙ not-false (c .before .before .play .result .clean) (c .if1 .left)
 
 compared : (c : tie.After-same-settings)
     → let q = c .before .before .before .before in
-    let b = q .before .before .before .before .before .before .before .before .before .best-of .result in
-    sameSettings (play factory (ship q) .settings) (b .settings) ≡ c .same-settings .result
+    sameSettings (play factory (ship q) .settings) (nextOf (q .before .before .before) .before .before .best-of .result .settings) ≡ c .same-settings .result
 compared c =
     let q = c .before .before .before .before in
-    let b = q .before .before .before .before .before .before .before .before .before .best-of .result in
+    let b = nextOf (q .before .before .before) .before .before .best-of .result in
     sym (c .same-settings .ensures ∙ ap (λ (s : Settings). sameSettings s (b .settings)) (played q .0))
+
+returns : tie.Need-returns
+returns c =
+    let o = c .before .enum-told .given in
+    let k = c .before .before .before in
+    let r = reportIn (k .before) in
+    promised-no r (all-bytes (k .before)) (head-no r (subst (HeadAt r) (o .1) (k .count-of .ensures))) (c .refused .ensures) (o .1)
+
+returns-2 : tie.Need-returns-2
+returns-2 c =
+    let o = c .before .enum-told2 .given in
+    let t = c .before .before .before in
+    let h = t .before .before in
+    let r = reportIn (start h) in
+    let b = t .best-of .result in
+    promised-no r (all-bytes (start h))
+    (trials-no r (head-is h) (subst (λ (x : Outcome). BestAt r (h .head .given .0 .0) x (b .trial) (b .score) (b .settings)) (o .1) (t .best-of .ensures))) (c .refused2 .ensures) (o .1)
+
+returns-3 : tie.Need-returns-3
+returns-3 c =
+    let o = c .before .enum-told4 .given in
+    let w = c .before .before .before in
+    let n = w .before .before in
+    let h = headOf n in
+    let r = reportIn (start h) in
+    promised-no r (all-bytes (start h))
+    (winner-no r (head-is h) (best-is n) (subst (WinnerAt r (n .next .given .0 .0) (h .head .given .0 .0) (n .before .before .best-of .result .trial)) (o .1) (w .winner-of .ensures))) (c .refused3 .ensures) (o .1)
+
+returns-4 : tie.Need-returns-4
+returns-4 c =
+    let q = c .before .before .before .before in
+    let d = q .before .before .before in
+    let n = nextOf d in
+    let h = headOf n in
+    let r = reportIn (start h) in
+    promised-no r (all-bytes (start h)) (refused-18 r (head-is h) (best-is n) (winner-is d) (sym (played q .1) ∙ not-true (q .play .result .clean) (c .before .before .if1 .taken)))
+    (c .refused4 .ensures) (c .before .refusal .ensures)
 
 returns-5 : tie.Need-returns-5
 returns-5 c =
     let m = c .before .before .before in
     let i = m .before .before in
     let d = i .before .before .before .before .before in
-    let n = d .before .before .before .before in
-    let h = n .before .before .before .before in
-    let k = h .before .before .before in
-    promised-no (reportIn k) (all-bytes k)
-    (refused-19 (reportIn k) (head-is h) (best-is n) (winner-is d) (clean-yes i) (compared m ∙ not-true (m .same-settings .result) (c .before .before .if2 .taken)))
-    (c .refused5 .ensures .0 ∙ c .before .refusal2 .ensures) (c .refused5 .ensures .1) (c .refused5 .ensures .2)
+    let n = nextOf d in
+    let h = headOf n in
+    let r = reportIn (start h) in
+    promised-no r (all-bytes (start h)) (refused-19 r (head-is h) (best-is n) (winner-is d) (clean-yes i) (compared m ∙ not-true (m .same-settings .result) (c .before .before .if2 .taken)))
+    (c .refused5 .ensures) (c .before .refusal2 .ensures)
 
 returns-6 : tie.Need-returns-6
 returns-6 c =
     let m = c .before in
     let i = m .before .before in
     let d = i .before .before .before .before .before in
-    let n = d .before .before .before .before in
-    let h = n .before .before .before .before in
-    let k = h .before .before .before in
-    promised-yes (reportIn k) (all-bytes k)
-    (accepted-with (reportIn k) (head-is h) (best-is n) (winner-is d) (clean-yes i) (compared m ∙ not-false (m .same-settings .result) (c .if2 .left)))
-    (d .enum-told3 .given .1)
+    let n = nextOf d in
+    let h = headOf n in
+    let r = reportIn (start h) in
+    promised-yes r (all-bytes (start h)) (accepted-with r (head-is h) (best-is n) (winner-is d) (clean-yes i) (compared m ∙ not-false (m .same-settings .result) (c .if2 .left))) (d .enum-told3 .given .1)
 
 pub check-spec : {M : Type 1} → statement M
 check-spec =
     tie.close
-    (tie.spec
-    (λ c κs. search needs)
-    (λ c. search needs)
-    (λ c. search needs)
-    (λ c κs. search needs)
-    returns
-    best-of-requires
-    (λ c. search needs)
-    (λ c. search needs)
-    (λ c κs. search needs)
-    returns-2
-    winner-of-requires
-    (λ c. search needs)
-    (λ c. search needs)
-    (λ c κs. search needs)
-    returns-3
-    (λ c. omega (arith, room c))
-    (λ c κs. search needs)
-    (λ c. omega (arith, room (c .before)))
-    (λ c. omega (arith, room (c .before)))
-    (λ c. omega (arith, room (c .before)))
-    (λ c. search needs)
-    (λ c κs. search needs)
-    (λ c κs. search needs)
-    (λ c κs. search needs)
-    returns-4
-    (λ c κs. search needs)
-    (λ c κs. search needs)
-    (λ c κs. search needs)
-    returns-5
+    (tie.spec (λ c κs. search needs) (λ c. search needs) (λ c. search needs) (λ c κs. search needs) returns
+    (λ c κs. (head-is (c .before) .within, head-is (c .before) .some)) (λ c. search needs) (λ c. search needs) (λ c κs. search needs) returns-2 (λ c κs. best-is (c .before) .within)
+    (λ c. search needs) (λ c. search needs) (λ c κs. search needs) returns-3 (λ c. omega (arith, room c))
+    (λ c κs. search needs) (λ c. omega (arith, room (c .before))) (λ c. omega (arith, room (c .before)))
+    (λ c. omega (arith, room (c .before))) (λ c. search needs) (λ c κs. search needs) (λ c κs. search needs)
+    (λ c κs. search needs) returns-4 (λ c κs. search needs) (λ c κs. search needs) (λ c κs. search needs) returns-5
     returns-6)
