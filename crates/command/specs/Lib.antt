@@ -11,6 +11,7 @@ pub mod Judgement
 pub mod Carry
 pub mod Response
 pub mod Player
+pub mod Computing
 pub mod Controller
 pub mod Endpoint
 pub mod Encoder
