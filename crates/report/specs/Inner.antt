@@ -1,5 +1,5 @@
--- For the code alone: what its functions answer, told by the reading that specs/Report.antt defines. Each has the law that makes the verdict of it:
--- RecordAt `found` and `missed` (proofs/record/Laws), HeadAt `head-no`, BestAt `trials-no`, WinnerAt `winner-no` and `read-whole` (proofs/verdict/Laws).
+-- For the code alone: what its functions have read, by the readings of specs/Report.antt. The laws that make the verdict of them, in proofs/verdict/Laws:
+-- HeadAt `head-no`; BestAt, with First, `trials-no`; WinnerAt, with namedAt, `winner-no`, `verdict-read`. RecordAt is the reading of specs/Record.antt.
 use Prim.Native.Nat.{ℕ, _+_, _<_, _≤_}
 use mathlib.Core.Path.{_≡_}
 use mathlib.Core.Bool.{true}

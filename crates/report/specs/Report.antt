@@ -1,4 +1,4 @@
--- The tuning report: its layout, its trials, and the verdict.
+-- The tuning report: how it is read, its trials played one after another, and the verdict.
 use Prim.Native.Nat.{ℕ, zero, suc, _+_}
 use mathlib.Core.Bool.{Bool, true, false, not, _&&_}
 use mathlib.Core.List.{List, [], _∷_}
@@ -90,12 +90,14 @@ earlierAbove n (suc k) (t ∷ ts) = ltb n (t .score) && earlierAbove n k ts
 unfoldable pub firstLowest : List Trial → ℕ → Bool
 firstLowest ts k = noneBelow (scoreAt ts k) ts && earlierAbove (scoreAt ts k) k ts
 
+-- the same numbers in the same order
 unfoldable pub sameList : List ℕ → List ℕ → Bool
 sameList [] [] = true
 sameList [] (y ∷ ys) = false
 sameList (x ∷ xs) [] = false
 sameList (x ∷ xs) (y ∷ ys) = eqb x y && sameList xs ys
 
+-- each of these commands passes the test
 unfoldable pub every : (Command → Bool) → List Command → Bool
 every f [] = true
 every f (c ∷ cs) = f c && every f cs
@@ -117,6 +119,7 @@ pub data Verdict : Type 0 where
   Accepted : ℕ → ℕ → Settings → Verdict
   Refused : ℕ → ℕ → Verdict
 
+-- an accepted report yields the winner, its score and its end settings
 unfoldable pub verdictOf : Settings → Out Report → Verdict
 verdictOf f (Bad n p) = Refused n p
 verdictOf f (Good r) = Accepted (r .winner) (scoreAt (r .trials) (r .winner)) (endFrom f (r .trials) (r .winner))

@@ -1,5 +1,6 @@
 // What stands before the trials: one record of kind 1 (version, 2 bytes; trial count, 2 bytes).
 use crate::record::HEAD;
+use crate::record::HEADER;
 use crate::record::Outcome;
 use crate::record::record_at;
 use crate::record::refusal;
@@ -22,8 +23,8 @@ pub(crate) fn count_of(r: &[u8]) -> Outcome
     let Outcome::Value(_) = due else {
         return due;
     };
-    let version = word_at(r, 4);
-    let count = word_at(r, 6);
+    let version = word_at(r, HEADER);
+    let count = word_at(r, HEADER + 2);
     if version != VERSION {
         return refusal(14, 0);
     }

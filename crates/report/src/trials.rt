@@ -14,6 +14,9 @@ ghost use Rattle.report.specs.Inner.{BestAt};
 // Where the trials begin: after kind 1.
 const FIRST: usize = 8;
 
+// Where a trial's packets begin in its record: after the header and the score.
+const PACKETS: usize = 8;
+
 // The first of the lowest-scored trials, with its score and the settings that it ended with, and the
 // place after all of them.
 pub(crate) struct Best {
@@ -53,8 +56,8 @@ pub(crate) fn best_of(r: &[u8], count: usize) -> Best
             return missing(due);
         };
         let next = at + HEADER + n;
-        let score = long_at(r, at + 4);
-        let played = play(last, &r[at + 8..next]);
+        let score = long_at(r, at + HEADER);
+        let played = play(last, &r[at + PACKETS..next]);
         let ended = played.settings;
         if (i == 0) | (score < lowest) {
             trial = i;

@@ -57,5 +57,6 @@ count-of-spec =
     tie.close
     (tie.spec (λ c κs. search needs) returns (λ c κs. search needs) (λ c. search needs) (λ c. search needs) returns-2
     (λ c κs. omega (arith, found-head c .within, size-head (found-head c)))
+    (λ c. search needs)
     (λ c κs. omega (arith, found-head (c .before) .within, size-head (found-head (c .before)))) (λ c κs. search needs)
     returns-3 (λ c κs. search needs) returns-4 returns-5)
