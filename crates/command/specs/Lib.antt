@@ -15,3 +15,4 @@ pub mod Endpoint
 pub mod Player
 pub mod Encoder
 pub mod Inner
+pub mod Computing

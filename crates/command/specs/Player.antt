@@ -50,6 +50,16 @@ after a (p ∷ ps) = after (next a p) ps
 unfoldable pub play : Settings → List ℕ → State
 play s b = after (from s) (packets b)
 
+-- how each packet of the bytes is judged, what each draws, and what is left of the bytes: too few for a packet
+abbrev pub judgementsOn : Settings → List ℕ → List Judgement
+judgementsOn s b = judgements (from s) (packets b)
+
+abbrev pub responsesTo : Settings → List ℕ → List (List ℕ)
+responsesTo s b = responses (from s) (packets b)
+
+abbrev pub halfSent : List ℕ → List ℕ
+halfSent b = rest b
+
 unfoldable pub allAcknowledged : List Judgement → Bool
 allAcknowledged [] = true
 allAcknowledged (j ∷ js) = acknowledged j && allAcknowledged js
@@ -61,7 +71,7 @@ isNil (x ∷ xs) = false
 
 -- each packet is acknowledged, and no packet or transfer is left half sent
 unfoldable pub clean : Settings → List ℕ → Bool
-clean s b = allAcknowledged (judgements (from s) (packets b)) && not (isOpen (play s b .transfer)) && isNil (rest b)
+clean s b = allAcknowledged (judgementsOn s b) && not (isOpen (play s b .transfer)) && isNil (halfSent b)
 
 -- The play call: settings out of rule are not played. They stay, and nothing is clean.
 abbrev pub endSettings : Settings → List ℕ → Settings

@@ -1,2 +1,2 @@
 -- The laws of end.
-pub mod Steps
+pub mod Laws

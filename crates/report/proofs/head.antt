@@ -1,2 +1,2 @@
 -- The laws of head.
-pub mod Steps
+pub mod Laws

@@ -1,3 +1,2 @@
 -- The laws of record.
 pub mod Laws
-pub mod Parts

@@ -1,5 +1,3 @@
 -- The laws of trials.
 pub mod Laws
-pub mod Steps
-pub mod Lowest
 pub mod Turns

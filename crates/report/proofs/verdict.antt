@@ -1,3 +1,4 @@
 -- The laws of verdict.
-pub mod Flat
+pub mod Laid
+pub mod Reading
 pub mod Laws

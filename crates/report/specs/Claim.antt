@@ -6,11 +6,10 @@ use mathlib.Core.Bool.{true}
 use mathlib.Core.List.{List, [], _∷_, _++_}
 use lib.ListN.{length}
 use Rattle.packet.specs.Number.{bytesOf}
-use Rattle.packet.specs.Stream.{packets, rest}
 use Rattle.command.specs.Settings.{factory}
 use Rattle.command.specs.declared.settings.Settings.{Settings}
 use Rattle.command.specs.Transfer.{Closed}
-use Rattle.command.specs.Player.{from, judgements, play, allAcknowledged}
+use Rattle.command.specs.Player.{judgementsOn, play, allAcknowledged, halfSent}
 use Rattle.command.specs.Encoder.{standardList}
 use Rattle.report.specs.Report.{Trial, scoreAt, endFrom, Verdict, Accepted, verdict}
 
@@ -19,15 +18,21 @@ unfoldable pub recordOf : ℕ → List ℕ → List ℕ
 recordOf kind body = bytesOf 2 (length body) ++ (bytesOf 2 kind ++ body)
 
 -- kind 2: score, 4 bytes; packet bytes, possibly none
+abbrev pub trialOf : Trial → List ℕ
+trialOf t = recordOf 2 (bytesOf 4 (t .score) ++ t .bytes)
+
 unfoldable pub trialRecords : List Trial → List ℕ
 trialRecords [] = []
-trialRecords (t ∷ ts) = recordOf 2 (bytesOf 4 (t .score) ++ t .bytes) ++ trialRecords ts
+trialRecords (t ∷ ts) = trialOf t ++ trialRecords ts
 
--- The layout of a report. In order: one of kind 1 (version, 2 bytes, 1; trial count, 2 bytes); that many of kind 2;
+-- kind 1: version, 2 bytes, 1; trial count, 2 bytes
+abbrev pub headOf : ℕ → List ℕ
+headOf n = recordOf 1 (bytesOf 2 1 ++ bytesOf 2 n)
+
+-- The layout of a report. In order: one of kind 1; that many of kind 2;
 -- one of kind 3 (winner, 2 bytes, from 0); one of kind 4 (shipping packets, possibly none).
 unfoldable pub reportOf : List Trial → ℕ → List ℕ → List ℕ
-reportOf ts k ship =
-    recordOf 1 (bytesOf 2 1 ++ bytesOf 2 (length ts)) ++ (trialRecords ts ++ (recordOf 3 (bytesOf 2 k) ++ recordOf 4 ship))
+reportOf ts k ship = headOf (length ts) ++ (trialRecords ts ++ (recordOf 3 (bytesOf 2 k) ++ recordOf 4 ship))
 
 -- every score is 4 bytes, unsigned
 abbrev pub Scores : List Trial → Type 0
@@ -41,9 +46,9 @@ pub record FirstLowest (ts : List Trial) (k : ℕ) : Type 0 where
 
 -- Played from these factory values, the packets are each acknowledged, and no transfer and no packet is left half sent.
 pub record Ships (f : Settings) (b : List ℕ) : Type 0 where
-  pub acknowledged : allAcknowledged (judgements (from f) (packets b)) ≡ true
+  pub acknowledged : allAcknowledged (judgementsOn f b) ≡ true
   pub closed : play f b .transfer ≡ Closed
-  pub finished : rest b ≡ []
+  pub finished : halfSent b ≡ []
 
 -- The claim of the report r: trial k is its winner, with this score and these end settings.
 pub record Claim (r : List ℕ) (k score : ℕ) (s : Settings) : Type 0 where

@@ -4,14 +4,13 @@ use mathlib.Core.Bool.{Bool, true, false, not, _&&_}
 use mathlib.Core.List.{List, [], _∷_, _++_}
 use lib.Dec.{eqb}
 use lib.ListN.{replicate}
-use Rattle.packet.specs.Packet.{packetOf}
-use Rattle.packet.specs.Stream.{packets}
+use Rattle.packet.specs.Calls.{joined}
 use Rattle.command.specs.Rules.{allowed}
 use Rattle.command.specs.Settings.{valuesOf, factory}
 use Rattle.command.specs.declared.table.Command.{Command}
 use Rattle.command.specs.declared.table.Command.the-variants.{DisplayMode, TestPattern, LedCurrent, StaticColour, DisplaySetting, VideoInput, VideoMode, PatternSequence, SequenceRun}
 use Rattle.command.specs.Response.{codesIn}
-use Rattle.command.specs.Player.{State, from, judged, next, responses, play, clean}
+use Rattle.command.specs.Player.{State, from, judged, next, responsesTo, play, clean}
 use Rattle.report.specs.Report.{sameList, Verdict, Accepted, Refused, verdict}
 
 pub data Example : Type 0 where
@@ -31,10 +30,6 @@ pub data Example : Type 0 where
   -- a report that is refused, with the number and the place
   Refuses : List ℕ → ℕ → ℕ → Example
 
-unfoldable pub joinedAll : List (List ℕ) → List ℕ
-joinedAll [] = []
-joinedAll (b ∷ bs) = b ++ joinedAll bs
-
 -- the codes that the last of some packets draws
 unfoldable pub lastDraws : State → List (List ℕ) → List ℕ
 lastDraws a [] = []
@@ -51,7 +46,7 @@ isNo (Accepted k n s) n′ p′ = false
 isNo (Refused n p) n′ p′ = eqb n n′ && eqb p p′
 
 unfoldable pub holds : Example → Bool
-holds (Answers b r) = sameList (joinedAll (responses (from factory) (packets b))) r
+holds (Answers b r) = sameList (joined (responsesTo factory b)) r
 holds (Leaves b c v) = sameList (valuesOf c (play factory b .settings)) v
 holds (Draws ps k) = sameList (lastDraws (from factory) ps) k
 holds (Cleans b true) = clean factory b
@@ -165,53 +160,53 @@ rows =
 -- Each fault alone.
 abbrev pub faultsAlone : List Example
 faultsAlone =
-    Draws (packetOf 2 1 3 0 (5 ∷ []) ∷ []) []
-    ∷ Draws (packetOf 2 1 2 0 (5 ∷ []) ∷ []) (2 ∷ [])
-    ∷ Draws (packetOf 3 1 3 0 (5 ∷ []) ∷ []) (2 ∷ [])
-    ∷ Draws (packetOf 4 1 6 0 [] ∷ []) (2 ∷ [])
-    ∷ Draws (packetOf 4 1 3 0 [] ∷ []) []
-    ∷ Draws (packetOf 4 1 3 0 (0 ∷ []) ∷ []) (10 ∷ [])
-    ∷ Draws (packetOf 4 1 3 1 [] ∷ []) (11 ∷ [])
-    ∷ Draws (packetOf 2 1 3 0 [] ∷ []) (10 ∷ [])
-    ∷ Draws (packetOf 2 1 3 0 (14 ∷ []) ∷ []) (3 ∷ [])
-    ∷ Draws (packetOf 2 4 2 0 (1 ∷ []) ∷ []) (7 ∷ [])
-    ∷ Draws (packetOf 2 4 2 0 (2 ∷ []) ∷ []) (3 ∷ [])
-    ∷ Draws (packetOf 2 4 2 0 (0 ∷ []) ∷ []) []
-    ∷ Draws (packetOf 2 1 3 4 (5 ∷ []) ∷ []) (11 ∷ [])
-    ∷ Draws (packetOf 2 1 3 2 (5 ∷ []) ∷ []) (11 ∷ [])
-    ∷ Draws (packetOf 2 1 3 3 (5 ∷ []) ∷ []) (11 ∷ [])
-    ∷ Draws (packetOf 2 1 3 1 [] ∷ packetOf 2 1 3 0 (5 ∷ []) ∷ []) (11 ∷ [])
-    ∷ Draws (packetOf 2 1 3 1 [] ∷ packetOf 2 1 3 1 [] ∷ []) (11 ∷ [])
-    ∷ Draws (packetOf 2 1 3 1 [] ∷ packetOf 2 1 1 3 (0 ∷ []) ∷ []) (11 ∷ [])
-    ∷ Draws (packetOf 2 1 3 1 [] ∷ packetOf 4 1 3 0 [] ∷ []) (11 ∷ [])
-    ∷ Draws (packetOf 2 1 3 1 [] ∷ packetOf 2 1 2 3 (5 ∷ []) ∷ []) (2 ∷ 11 ∷ [])
-    ∷ Draws (packetOf 2 1 3 1 (replicate 1024 0) ∷ packetOf 2 1 3 2 (0 ∷ []) ∷ []) (4 ∷ [])
-    ∷ Draws (packetOf 2 1 3 1 (replicate 1024 0) ∷ packetOf 2 1 3 2 [] ∷ []) []
+    Draws ((0x02 ∷ 0x01 ∷ 0x03 ∷ 0x00 ∷ 0x01 ∷ 0x00 ∷ 0x05 ∷ 0x0C ∷ []) ∷ []) []
+    ∷ Draws ((0x02 ∷ 0x01 ∷ 0x02 ∷ 0x00 ∷ 0x01 ∷ 0x00 ∷ 0x05 ∷ 0x0B ∷ []) ∷ []) (2 ∷ [])
+    ∷ Draws ((0x03 ∷ 0x01 ∷ 0x03 ∷ 0x00 ∷ 0x01 ∷ 0x00 ∷ 0x05 ∷ 0x0D ∷ []) ∷ []) (2 ∷ [])
+    ∷ Draws ((0x04 ∷ 0x01 ∷ 0x06 ∷ 0x00 ∷ 0x00 ∷ 0x00 ∷ 0x0B ∷ []) ∷ []) (2 ∷ [])
+    ∷ Draws ((0x04 ∷ 0x01 ∷ 0x03 ∷ 0x00 ∷ 0x00 ∷ 0x00 ∷ 0x08 ∷ []) ∷ []) []
+    ∷ Draws ((0x04 ∷ 0x01 ∷ 0x03 ∷ 0x00 ∷ 0x01 ∷ 0x00 ∷ 0x00 ∷ 0x09 ∷ []) ∷ []) (10 ∷ [])
+    ∷ Draws ((0x04 ∷ 0x01 ∷ 0x03 ∷ 0x01 ∷ 0x00 ∷ 0x00 ∷ 0x09 ∷ []) ∷ []) (11 ∷ [])
+    ∷ Draws ((0x02 ∷ 0x01 ∷ 0x03 ∷ 0x00 ∷ 0x00 ∷ 0x00 ∷ 0x06 ∷ []) ∷ []) (10 ∷ [])
+    ∷ Draws ((0x02 ∷ 0x01 ∷ 0x03 ∷ 0x00 ∷ 0x01 ∷ 0x00 ∷ 0x0E ∷ 0x15 ∷ []) ∷ []) (3 ∷ [])
+    ∷ Draws ((0x02 ∷ 0x04 ∷ 0x02 ∷ 0x00 ∷ 0x01 ∷ 0x00 ∷ 0x01 ∷ 0x0A ∷ []) ∷ []) (7 ∷ [])
+    ∷ Draws ((0x02 ∷ 0x04 ∷ 0x02 ∷ 0x00 ∷ 0x01 ∷ 0x00 ∷ 0x02 ∷ 0x0B ∷ []) ∷ []) (3 ∷ [])
+    ∷ Draws ((0x02 ∷ 0x04 ∷ 0x02 ∷ 0x00 ∷ 0x01 ∷ 0x00 ∷ 0x00 ∷ 0x09 ∷ []) ∷ []) []
+    ∷ Draws ((0x02 ∷ 0x01 ∷ 0x03 ∷ 0x04 ∷ 0x01 ∷ 0x00 ∷ 0x05 ∷ 0x10 ∷ []) ∷ []) (11 ∷ [])
+    ∷ Draws ((0x02 ∷ 0x01 ∷ 0x03 ∷ 0x02 ∷ 0x01 ∷ 0x00 ∷ 0x05 ∷ 0x0E ∷ []) ∷ []) (11 ∷ [])
+    ∷ Draws ((0x02 ∷ 0x01 ∷ 0x03 ∷ 0x03 ∷ 0x01 ∷ 0x00 ∷ 0x05 ∷ 0x0F ∷ []) ∷ []) (11 ∷ [])
+    ∷ Draws ((0x02 ∷ 0x01 ∷ 0x03 ∷ 0x01 ∷ 0x00 ∷ 0x00 ∷ 0x07 ∷ []) ∷ (0x02 ∷ 0x01 ∷ 0x03 ∷ 0x00 ∷ 0x01 ∷ 0x00 ∷ 0x05 ∷ 0x0C ∷ []) ∷ []) (11 ∷ [])
+    ∷ Draws ((0x02 ∷ 0x01 ∷ 0x03 ∷ 0x01 ∷ 0x00 ∷ 0x00 ∷ 0x07 ∷ []) ∷ (0x02 ∷ 0x01 ∷ 0x03 ∷ 0x01 ∷ 0x00 ∷ 0x00 ∷ 0x07 ∷ []) ∷ []) (11 ∷ [])
+    ∷ Draws ((0x02 ∷ 0x01 ∷ 0x03 ∷ 0x01 ∷ 0x00 ∷ 0x00 ∷ 0x07 ∷ []) ∷ (0x02 ∷ 0x01 ∷ 0x01 ∷ 0x03 ∷ 0x01 ∷ 0x00 ∷ 0x00 ∷ 0x08 ∷ []) ∷ []) (11 ∷ [])
+    ∷ Draws ((0x02 ∷ 0x01 ∷ 0x03 ∷ 0x01 ∷ 0x00 ∷ 0x00 ∷ 0x07 ∷ []) ∷ (0x04 ∷ 0x01 ∷ 0x03 ∷ 0x00 ∷ 0x00 ∷ 0x00 ∷ 0x08 ∷ []) ∷ []) (11 ∷ [])
+    ∷ Draws ((0x02 ∷ 0x01 ∷ 0x03 ∷ 0x01 ∷ 0x00 ∷ 0x00 ∷ 0x07 ∷ []) ∷ (0x02 ∷ 0x01 ∷ 0x02 ∷ 0x03 ∷ 0x01 ∷ 0x00 ∷ 0x05 ∷ 0x0E ∷ []) ∷ []) (2 ∷ 11 ∷ [])
+    ∷ Draws (((0x02 ∷ 0x01 ∷ 0x03 ∷ 0x01 ∷ 0x00 ∷ 0x04 ∷ []) ++ replicate 1024 0 ++ (0x0B ∷ [])) ∷ (0x02 ∷ 0x01 ∷ 0x03 ∷ 0x02 ∷ 0x01 ∷ 0x00 ∷ 0x00 ∷ 0x09 ∷ []) ∷ []) (4 ∷ [])
+    ∷ Draws (((0x02 ∷ 0x01 ∷ 0x03 ∷ 0x01 ∷ 0x00 ∷ 0x04 ∷ []) ++ replicate 1024 0 ++ (0x0B ∷ [])) ∷ (0x02 ∷ 0x01 ∷ 0x03 ∷ 0x02 ∷ 0x00 ∷ 0x00 ∷ 0x08 ∷ []) ∷ []) []
     ∷ []
 
 -- Transfers, and what an error packet leaves.
 abbrev pub transfers : List Example
 transfers =
-    Draws (packetOf 2 1 3 1 [] ∷ packetOf 2 1 3 2 [] ∷ packetOf 2 1 3 3 (5 ∷ []) ∷ []) []
-    ∷ Draws (packetOf 2 1 3 1 [] ∷ packetOf 2 1 2 0 [] ∷ packetOf 2 1 3 3 (5 ∷ []) ∷ []) (11 ∷ [])
-    ∷ Draws (packetOf 2 1 3 1 [] ∷ packetOf 2 1 2 0 [] ∷ packetOf 2 1 3 0 (5 ∷ []) ∷ []) []
-    ∷ Draws (packetOf 2 1 1 0 (4 ∷ []) ∷ packetOf 2 4 2 0 (1 ∷ []) ∷ []) []
-    ∷ Leaves (packetOf 2 1 1 0 (4 ∷ []) ++ packetOf 2 4 2 0 (1 ∷ []) ++ packetOf 2 1 1 0 (4 ∷ [])) SequenceRun (1 ∷ [])
-    ∷ Leaves (packetOf 2 1 1 0 (4 ∷ []) ++ packetOf 2 4 2 0 (1 ∷ []) ++ packetOf 2 1 1 0 (0 ∷ [])) SequenceRun (0 ∷ [])
-    ∷ Leaves (packetOf 2 1 3 0 (5 ∷ []) ++ packetOf 2 1 3 0 (14 ∷ [])) TestPattern (5 ∷ [])
-    ∷ Leaves (packetOf 2 1 4 0 (1 ∷ 0 ∷ 2 ∷ 0 ∷ 1 ∷ 4 ∷ [])) LedCurrent (274 ∷ 274 ∷ 274 ∷ [])
+    Draws ((0x02 ∷ 0x01 ∷ 0x03 ∷ 0x01 ∷ 0x00 ∷ 0x00 ∷ 0x07 ∷ []) ∷ (0x02 ∷ 0x01 ∷ 0x03 ∷ 0x02 ∷ 0x00 ∷ 0x00 ∷ 0x08 ∷ []) ∷ (0x02 ∷ 0x01 ∷ 0x03 ∷ 0x03 ∷ 0x01 ∷ 0x00 ∷ 0x05 ∷ 0x0F ∷ []) ∷ []) []
+    ∷ Draws ((0x02 ∷ 0x01 ∷ 0x03 ∷ 0x01 ∷ 0x00 ∷ 0x00 ∷ 0x07 ∷ []) ∷ (0x02 ∷ 0x01 ∷ 0x02 ∷ 0x00 ∷ 0x00 ∷ 0x00 ∷ 0x05 ∷ []) ∷ (0x02 ∷ 0x01 ∷ 0x03 ∷ 0x03 ∷ 0x01 ∷ 0x00 ∷ 0x05 ∷ 0x0F ∷ []) ∷ []) (11 ∷ [])
+    ∷ Draws ((0x02 ∷ 0x01 ∷ 0x03 ∷ 0x01 ∷ 0x00 ∷ 0x00 ∷ 0x07 ∷ []) ∷ (0x02 ∷ 0x01 ∷ 0x02 ∷ 0x00 ∷ 0x00 ∷ 0x00 ∷ 0x05 ∷ []) ∷ (0x02 ∷ 0x01 ∷ 0x03 ∷ 0x00 ∷ 0x01 ∷ 0x00 ∷ 0x05 ∷ 0x0C ∷ []) ∷ []) []
+    ∷ Draws ((0x02 ∷ 0x01 ∷ 0x01 ∷ 0x00 ∷ 0x01 ∷ 0x00 ∷ 0x04 ∷ 0x09 ∷ []) ∷ (0x02 ∷ 0x04 ∷ 0x02 ∷ 0x00 ∷ 0x01 ∷ 0x00 ∷ 0x01 ∷ 0x0A ∷ []) ∷ []) []
+    ∷ Leaves ((0x02 ∷ 0x01 ∷ 0x01 ∷ 0x00 ∷ 0x01 ∷ 0x00 ∷ 0x04 ∷ 0x09 ∷ []) ++ (0x02 ∷ 0x04 ∷ 0x02 ∷ 0x00 ∷ 0x01 ∷ 0x00 ∷ 0x01 ∷ 0x0A ∷ []) ++ (0x02 ∷ 0x01 ∷ 0x01 ∷ 0x00 ∷ 0x01 ∷ 0x00 ∷ 0x04 ∷ 0x09 ∷ [])) SequenceRun (1 ∷ [])
+    ∷ Leaves ((0x02 ∷ 0x01 ∷ 0x01 ∷ 0x00 ∷ 0x01 ∷ 0x00 ∷ 0x04 ∷ 0x09 ∷ []) ++ (0x02 ∷ 0x04 ∷ 0x02 ∷ 0x00 ∷ 0x01 ∷ 0x00 ∷ 0x01 ∷ 0x0A ∷ []) ++ (0x02 ∷ 0x01 ∷ 0x01 ∷ 0x00 ∷ 0x01 ∷ 0x00 ∷ 0x00 ∷ 0x05 ∷ [])) SequenceRun (0 ∷ [])
+    ∷ Leaves ((0x02 ∷ 0x01 ∷ 0x03 ∷ 0x00 ∷ 0x01 ∷ 0x00 ∷ 0x05 ∷ 0x0C ∷ []) ++ (0x02 ∷ 0x01 ∷ 0x03 ∷ 0x00 ∷ 0x01 ∷ 0x00 ∷ 0x0E ∷ 0x15 ∷ [])) TestPattern (5 ∷ [])
+    ∷ Leaves (0x02 ∷ 0x01 ∷ 0x04 ∷ 0x00 ∷ 0x06 ∷ 0x00 ∷ 0x01 ∷ 0x00 ∷ 0x02 ∷ 0x00 ∷ 0x01 ∷ 0x04 ∷ 0x15 ∷ []) LedCurrent (274 ∷ 274 ∷ 274 ∷ [])
     ∷ []
 
 -- What is wholly acknowledged.
 abbrev pub acknowledgements : List Example
 acknowledgements =
     Cleans [] true
-    ∷ Cleans (packetOf 2 1 3 0 (5 ∷ [])) true
-    ∷ Cleans (packetOf 2 1 3 1 [] ++ packetOf 2 1 3 3 (5 ∷ [])) true
-    ∷ Cleans (packetOf 2 1 3 0 (14 ∷ [])) false
-    ∷ Cleans (packetOf 4 1 3 0 []) false
-    ∷ Cleans (packetOf 2 1 3 1 []) false
-    ∷ Cleans (packetOf 2 1 3 0 (5 ∷ []) ++ (2 ∷ [])) false
+    ∷ Cleans (0x02 ∷ 0x01 ∷ 0x03 ∷ 0x00 ∷ 0x01 ∷ 0x00 ∷ 0x05 ∷ 0x0C ∷ []) true
+    ∷ Cleans ((0x02 ∷ 0x01 ∷ 0x03 ∷ 0x01 ∷ 0x00 ∷ 0x00 ∷ 0x07 ∷ []) ++ (0x02 ∷ 0x01 ∷ 0x03 ∷ 0x03 ∷ 0x01 ∷ 0x00 ∷ 0x05 ∷ 0x0F ∷ [])) true
+    ∷ Cleans (0x02 ∷ 0x01 ∷ 0x03 ∷ 0x00 ∷ 0x01 ∷ 0x00 ∷ 0x0E ∷ 0x15 ∷ []) false
+    ∷ Cleans (0x04 ∷ 0x01 ∷ 0x03 ∷ 0x00 ∷ 0x00 ∷ 0x00 ∷ 0x08 ∷ []) false
+    ∷ Cleans (0x02 ∷ 0x01 ∷ 0x03 ∷ 0x01 ∷ 0x00 ∷ 0x00 ∷ 0x07 ∷ []) false
+    ∷ Cleans ((0x02 ∷ 0x01 ∷ 0x03 ∷ 0x00 ∷ 0x01 ∷ 0x00 ∷ 0x05 ∷ 0x0C ∷ []) ++ (2 ∷ [])) false
     ∷ []
 
 -- the table

@@ -1,56 +1,73 @@
--- What the code reads of a report, in document 01's numbers: a refusal's number and place, or a value.
-use Prim.Native.Nat.{ℕ, _+_, suc}
-use mathlib.Core.List.{List, [], _∷_}
-use lib.ListN.{take, drop}
-use Rattle.report.specs.Record.{Out, Bad, Good, Piece, _>>=_, _>>_, need}
+-- For the code alone: what its functions have read, by the readings of specs/Report.antt. The laws that make the verdict of them, in proofs/verdict/Laws:
+-- HeadAt `head-no`; BestAt, with First, `trials-no`; WinnerAt, with namedAt, `winner-no`, `verdict-read`. RecordAt is the reading of specs/Record.antt.
+use Prim.Native.Nat.{ℕ, _+_, _<_, _≤_}
+use mathlib.Core.Path.{_≡_}
+use mathlib.Core.Bool.{true}
+use mathlib.Core.List.{List}
+use lib.Dec.{eqb}
+use lib.ListN.{length, take, drop}
+use Rattle.command.specs.Settings.{factory}
+use Rattle.command.specs.declared.settings.Settings.{Settings}
+use Rattle.report.specs.Record.{Out, Bad, Good, _>>=_, _>>_, need, sized, reading}
+use Rattle.report.specs.Report.{Trial, Report, scoreAt, endFrom, readHead, readTrials, readEnd}
+use Rattle.report.specs.Claim.{FirstLowest}
 use Rattle.report.specs.declared.record.Outcome.{Outcome}
 use Rattle.report.specs.declared.record.Outcome.the-variants.{Value, Refused}
-use Rattle.report.specs.Report.{Trials, scoreAt, Trial as Recorded, endFrom, noneBelow, readEnd}
-use Rattle.report.specs.declared.trials.Trial.{Trial}
-use mathlib.Core.Bool.{cond}
-use Rattle.command.specs.Settings.{factory}
-use Rattle.report.specs.declared.trials.Best.{Best}
-use lib.Dec.{eqb}
 
-abbrev pub outOf : Outcome → Out ℕ
-outOf (Value n) = Good n
-outOf (Refused n p) = Bad n p
+-- the record of this kind at a place of r has a body of n bytes
+pub record RecordIs (r : List ℕ) (kind at n : ℕ) : Type 0 where
+  pub reads : reading kind at (drop at r) ≡ Good (record { body = take n (drop (at + 4) r); left = drop (at + 4 + n) r })
+  pub within : at + 4 + n ≤ length r
+  pub right : sized kind n ≡ true
 
--- the record at this place of r, by the length of its body
-abbrev pub pieceOf : List ℕ → ℕ → Outcome → Out Piece
-pieceOf r at (Value n) = Good (record { body = take n (drop 4 (drop at r)); left = drop (4 + n) (drop at r) })
-pieceOf r at (Refused n p) = Bad n p
+abbrev pub RecordAt : List ℕ → ℕ → ℕ → Outcome → Type 0
+RecordAt r kind at (Value n) = RecordIs r kind at n
+RecordAt r kind at (Refused n p) = reading kind at (drop at r) ≡ Bad n p
 
--- where that record ends
-abbrev pub endOf : ℕ → Outcome → ℕ
-endOf at (Value n) = at + 4 + n
-endOf at (Refused n p) = 0
+-- kind 1 of r counts n trials
+pub record HeadIs (r : List ℕ) (n : ℕ) : Type 0 where
+  pub reads : readHead r ≡ Good n
+  pub some : 0 < n
+  pub within : 8 ≤ length r
+  pub short : length r ≤ 60000
 
--- what the reading of one trial is answered with: the place behind it and its score, or the refusal, with 0
-abbrev pub trialIn : Out Trials → Trial
-trialIn (Good q) = record { next = Value (q .at); score = scoreAt (q .list) 0 }
-trialIn (Bad n p) = record { next = Refused n p; score = 0 }
+abbrev pub HeadAt : List ℕ → Outcome → Type 0
+HeadAt r (Value n) = HeadIs r n
+HeadAt r (Refused n p) = readHead r ≡ Bad n p
 
--- the first of the lowest-scored, counted from 0: the first trial that none behind it scores below; of no trials 0
-unfoldable pub firstOf : List Recorded → ℕ
-firstOf [] = 0
-firstOf (t ∷ ts) = cond (noneBelow (t .score) ts) 0 (suc (firstOf ts))
+-- of these trials, trial k is the first of the lowest-scored, with this score and these end settings
+pub record First (ts : List Trial) (k score : ℕ) (e : Settings) : Type 0 where
+  pub named : k < length ts
+  pub first : FirstLowest ts k
+  pub scored : score ≡ scoreAt ts k
+  pub ends : e ≡ endFrom factory ts k
 
--- what the trials that were read are answered with: the place behind them, the first of the lowest-scored, its score and its end settings;
--- or the refusal, with 0 and factory values
-abbrev pub bestOf : Out Trials → Best
-bestOf (Good q) =
-    record {
-      next = Value (q .at);
-      trial = firstOf (q .list);
-      score = scoreAt (q .list) (firstOf (q .list));
-      settings = endFrom factory (q .list) (firstOf (q .list));
-    }
-bestOf (Bad n p) = record { next = Refused n p; trial = 0; score = 0; settings = factory }
+-- the n trials of r end at this place, and trial k is their first of the lowest-scored
+pub record BestIs (r : List ℕ) (n at k score : ℕ) (e : Settings) : Type 0 where
+  pub list : List Trial
+  pub reads : readTrials n 8 (drop 8 r) ≡ Good (record { list = list; at = at; left = drop at r })
+  pub count : length list ≡ n
+  pub within : at ≤ length r
+  pub best : First list k score e
 
--- the winner, read behind n trials at this place, where `best` is the first of the lowest-scored: 17 comes after 20
-unfoldable pub winnerAt : List ℕ → ℕ → ℕ → ℕ → Out ℕ
-winnerAt r at n best = do
-  p ← readEnd n (record { list = []; at = at; left = drop at r })
+abbrev pub BestAt : List ℕ → ℕ → Outcome → ℕ → ℕ → Settings → Type 0
+BestAt r n (Value at) k score e = BestIs r n at k score e
+BestAt r n (Refused x p) k score e = readTrials n 8 (drop 8 r) ≡ Bad x p
+
+-- what is read after n trials that end at this place, where trial best is the first of their lowest-scored: 17 comes after 20
+unfoldable pub namedAt : List ℕ → ℕ → ℕ → ℕ → List Trial → Out Report
+namedAt r at n best ts = do
+  p ← readEnd n (record { list = ts; at = at; left = drop at r })
   need (eqb (p .winner) best) 17 at
-  Good (p .winner)
+  Good p
+
+-- the winner k is that trial, and kind 4 ends the report
+pub record WinnerIs (r : List ℕ) (at n best k : ℕ) : Type 0 where
+  pub reads : (ts : List Trial) → readEnd n (record { list = ts; at = at; left = drop at r })
+      ≡ Good (record { trials = ts; winner = k; shipping = drop (at + 10) r; place = at })
+  pub named : k ≡ best
+  pub within : at + 10 ≤ length r
+
+abbrev pub WinnerAt : List ℕ → ℕ → ℕ → ℕ → Outcome → Type 0
+WinnerAt r at n best (Value k) = WinnerIs r at n best k
+WinnerAt r at n best (Refused x p) = (ts : List Trial) → namedAt r at n best ts ≡ Bad x p

@@ -1,6 +1,6 @@
 -- Records of the tuning report: a refusal or a value, and the record that is due.
 use Prim.Native.Nat.{ℕ, _+_}
-use mathlib.Core.Bool.{Bool, true, false, _&&_}
+use mathlib.Core.Bool.{Bool, true, false, cond, _&&_}
 use mathlib.Core.List.{List}
 use lib.Dec.{eqb, leb}
 use lib.ListN.{length, take, drop}
@@ -31,10 +31,15 @@ pub record Piece : Type 0 where
   pub body : List ℕ
   pub left : List ℕ
 
+-- the body length that a record of this kind has: 4 (kind 1), not under 4 (kind 2), 2 (kind 3)
+abbrev pub sized : ℕ → ℕ → Bool
+sized kind n = cond (eqb kind 1) (eqb n 4) (cond (eqb kind 2) (leb 4 n) (cond (eqb kind 3) (eqb n 2) true))
+
 -- Records: body length (2 bytes), kind (2 bytes), body. The one that is due is of this kind, at this place, and b is left:
--- 11 where b is fewer bytes than its header or body needs, 12 where it is of another kind.
+-- 11 where b is fewer bytes than its header or body needs, 12 where it is of another kind, 13 where its body has another length.
 unfoldable pub reading : ℕ → ℕ → List ℕ → Out Piece
 reading kind at b = do
   need (leb 4 (length b) && leb (4 + valueOf (take 2 b)) (length b)) 11 at
   need (eqb (valueOf (take 2 (drop 2 b))) kind) 12 at
+  need (sized kind (valueOf (take 2 b))) 13 at
   Good (record { body = take (valueOf (take 2 b)) (drop 4 b); left = drop (4 + valueOf (take 2 b)) b })

@@ -1,17 +1,15 @@
 -- The table of refusals: when each number holds, and its place.
 use Prim.Native.Nat.{ℕ, _+_, _≤_, _<_}
 use mathlib.Core.Path.{_≡_}
+use mathlib.Core.Bool.{false}
 use mathlib.Core.List.{List, _∷_, _++_}
 use lib.ListN.{length, take}
 use Rattle.packet.specs.Number.{valueOf, bytesOf}
 use Rattle.command.specs.Settings.{factory}
 use Rattle.command.specs.Player.{play}
+use Rattle.report.specs.Record.{sized}
 use Rattle.report.specs.Report.{Trial, endFrom}
-use Rattle.report.specs.Claim.{recordOf, trialRecords, reportOf, Scores, FirstLowest, Ships}
-
--- kind 1: version, 2 bytes, 1; trial count, 2 bytes
-abbrev pub headOf : ℕ → List ℕ
-headOf n = recordOf 1 (bytesOf 2 1 ++ bytesOf 2 n)
+use Rattle.report.specs.Claim.{recordOf, headOf, trialRecords, reportOf, Scores, FirstLowest, Ships}
 
 -- the report begins with kind 1, which counts n trials, and with the records of these trials
 pub record Begins (r : List ℕ) (n : ℕ) (ts : List Trial) (left : List ℕ) : Type 0 where
@@ -46,11 +44,8 @@ pub data Fault (r : List ℕ) : ℕ → ℕ → Type 0 where
       → (other ≡ kind → ⊥)
       → Fault r 12 at
   -- body length not 4 (kind 1), under 4 (kind 2), not 2 (kind 3)
-  F13-1 : (body more : List ℕ) → r ≡ recordOf 1 body ++ more → (length body ≡ 4 → ⊥) → Fault r 13 0
-  F13-2 : (n : ℕ) (ts : List Trial) (body more : List ℕ) → Begins r n ts (recordOf 2 body ++ more) → length ts < n → length body < 4
-      → Fault r 13 (8 + length (trialRecords ts))
-  F13-3 : (ts : List Trial) (body more : List ℕ) → Begins r (length ts) ts (recordOf 3 body ++ more) → 0 < length ts → (length body ≡ 2 → ⊥)
-      → Fault r 13 (8 + length (trialRecords ts))
+  F13 : (kind at : ℕ) (left body more : List ℕ) → Due r kind at left → left ≡ recordOf kind body ++ more → sized kind (length body) ≡ false
+      → Fault r 13 at
   -- version not 1
   F14 : (version count : ℕ) (more : List ℕ) → r ≡ recordOf 1 (bytesOf 2 version ++ bytesOf 2 count) ++ more → version < 65536 → (version ≡ 1 → ⊥)
       → Fault r 14 0

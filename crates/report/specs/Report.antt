@@ -1,4 +1,4 @@
--- The tuning report: its layout, its trials, and the verdict.
+-- The tuning report: how it is read, its trials played one after another, and the verdict.
 use Prim.Native.Nat.{ℕ, zero, suc, _+_}
 use mathlib.Core.Bool.{Bool, true, false, not, _&&_}
 use mathlib.Core.List.{List, [], _∷_}
@@ -30,12 +30,11 @@ pub record Report : Type 0 where
   pub shipping : List ℕ
   pub place : ℕ
 
--- that many of kind 2: score, 4 bytes; packet bytes, possibly none. 13 where the body is under 4 bytes.
+-- that many of kind 2: score, 4 bytes; packet bytes, possibly none
 unfoldable pub readTrials : ℕ → ℕ → List ℕ → Out Trials
 readTrials zero at b = Good (record { list = []; at = at; left = b })
 readTrials (suc n) at b = do
   p ← reading 2 at b
-  need (leb 4 (length (p .body))) 13 at
   r ← readTrials n (at + 4 + length (p .body)) (p .left)
   Good (record { list = record { score = valueOf (take 4 (p .body)); bytes = drop 4 (p .body) } ∷ r .list; at = r .at; left = r .left })
 
@@ -44,16 +43,14 @@ unfoldable pub readHead : List ℕ → Out ℕ
 readHead r = do
   need (leb (length r) 60000) 10 0
   h ← reading 1 0 r
-  need (eqb (length (h .body)) 4) 13 0
   need (eqb (valueOf (take 2 (h .body))) 1) 14 0
   need (not (eqb (valueOf (drop 2 (h .body))) 0)) 15 0
   Good (valueOf (drop 2 (h .body)))
 
--- Behind n trials: one of kind 3 (winner, 2 bytes, from 0), one of kind 4 (shipping packets, possibly none), and nothing after.
+-- After n trials: one of kind 3 (winner, 2 bytes, from 0), one of kind 4 (shipping packets, possibly none), and nothing after.
 unfoldable pub readEnd : ℕ → Trials → Out Report
 readEnd n ts = do
   w ← reading 3 (ts .at) (ts .left)
-  need (eqb (length (w .body)) 2) 13 (ts .at)
   need (ltb (valueOf (w .body)) n) 16 (ts .at)
   s ← reading 4 (ts .at + 6) (w .left)
   need (isNil (s .left)) 20 (ts .at + 10 + length (s .body))
@@ -93,12 +90,14 @@ earlierAbove n (suc k) (t ∷ ts) = ltb n (t .score) && earlierAbove n k ts
 unfoldable pub firstLowest : List Trial → ℕ → Bool
 firstLowest ts k = noneBelow (scoreAt ts k) ts && earlierAbove (scoreAt ts k) k ts
 
+-- the same numbers in the same order
 unfoldable pub sameList : List ℕ → List ℕ → Bool
 sameList [] [] = true
 sameList [] (y ∷ ys) = false
 sameList (x ∷ xs) [] = false
 sameList (x ∷ xs) (y ∷ ys) = eqb x y && sameList xs ys
 
+-- each of these commands passes the test
 unfoldable pub every : (Command → Bool) → List Command → Bool
 every f [] = true
 every f (c ∷ cs) = f c && every f cs
@@ -120,6 +119,7 @@ pub data Verdict : Type 0 where
   Accepted : ℕ → ℕ → Settings → Verdict
   Refused : ℕ → ℕ → Verdict
 
+-- an accepted report yields the winner, its score and its end settings
 unfoldable pub verdictOf : Settings → Out Report → Verdict
 verdictOf f (Bad n p) = Refused n p
 verdictOf f (Good r) = Accepted (r .winner) (scoreAt (r .trials) (r .winner)) (endFrom f (r .trials) (r .winner))

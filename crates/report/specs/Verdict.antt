@@ -6,6 +6,7 @@ use Rattle.report.specs.Report.{Verdict, Accepted, Refused as RefusedWit
 use Rattle.report.specs.declared.record.Outcome.{Outcome}
 use Rattle.report.specs.declared.record.Outcome.the-variants.{Value, Refused}
 
+-- the verdict that an answer says
 abbrev pub verdictIn : Outcome → ℕ → Settings → Verdict
 verdictIn (Value k) score e = Accepted k score e
 verdictIn (Refused n p) score e = RefusedWith n p

@@ -1,32 +1,38 @@
-// What stands behind the trials: one record of kind 3, one of kind 4, and nothing more.
+// What stands after the trials: one record of kind 3 (winner, 2 bytes), one of kind 4 (shipping
+// packets), and nothing more.
+use crate::record::HEADER;
 use crate::record::Outcome;
+use crate::record::SHIPPING;
+use crate::record::WINNER;
 use crate::record::record_at;
 use crate::record::refusal;
-ghost use mathlib.Core.Path.{_≡_};
-ghost use Rattle.report.specs.Inner.{outOf, winnerAt};
+use crate::record::word_at;
+ghost use Prim.Native.Nat.{_≤_};
+ghost use lib.ListN.{length};
+ghost use Rattle.report.specs.Inner.{WinnerAt};
 
-// The winner. So many trials were read up to this place, of which `best` is the first of the
-// lowest-scored.
+// The bytes of kind 3, header and body.
+pub(crate) const WINNER_RECORD: usize = 6;
+
+// The winner. So many trials end at this place, of which `best` is the first of the lowest-scored.
 pub(crate) fn winner_of(r: &[u8], at: usize, count: usize, best: usize) -> Outcome
-    ensures { λ o. ⌜ outOf o ≡ winnerAt (now (r .entry)) at count best ⌝ }
+    requires { ⌜ at ≤ length (now r) ⌝ }
+    ensures { λ o. ⌜ WinnerAt (now (r .entry)) at count best o ⌝ }
 {
-    let due = record_at(r, at, 3);
-    let Outcome::Value(n) = due else {
+    let due = record_at(r, at, WINNER);
+    let Outcome::Value(_) = due else {
         return due;
     };
-    let ship = at + 4 + n;
-    if n != 2 {
-        return refusal(13, at);
-    }
-    let winner = packet::word(r[at + 4], r[at + 5]);
+    let winner = word_at(r, at + HEADER);
+    let ship = at + WINNER_RECORD;
     if count <= winner {
         return refusal(16, at);
     }
-    let shipping = record_at(r, ship, 4);
-    let Outcome::Value(m) = shipping else {
+    let shipping = record_at(r, ship, SHIPPING);
+    let Outcome::Value(n) = shipping else {
         return shipping;
     };
-    let end = ship + 4 + m;
+    let end = ship + HEADER + n;
     if end < r.len() {
         return refusal(20, end);
     }

@@ -1,28 +1,31 @@
-// What stands before the trials: one record of kind 1.
+// What stands before the trials: one record of kind 1 (version, 2 bytes; trial count, 2 bytes).
+use crate::record::HEAD;
+use crate::record::HEADER;
 use crate::record::Outcome;
 use crate::record::record_at;
 use crate::record::refusal;
-ghost use mathlib.Core.Path.{_≡_};
-ghost use Rattle.report.specs.Report.{readHead};
-ghost use Rattle.report.specs.Inner.{outOf};
+use crate::record::word_at;
+ghost use Rattle.report.specs.Inner.{HeadAt};
+
+// The longest report.
+const LONGEST: usize = 60000;
+
+const VERSION: usize = 1;
 
 // The trial count.
 pub(crate) fn count_of(r: &[u8]) -> Outcome
-    ensures { λ o. ⌜ outOf o ≡ readHead (now (r .entry)) ⌝ }
+    ensures { λ o. ⌜ HeadAt (now (r .entry)) o ⌝ }
 {
-    if 60000 < r.len() {
+    if LONGEST < r.len() {
         return refusal(10, 0);
     }
-    let due = record_at(r, 0, 1);
-    let Outcome::Value(n) = due else {
+    let due = record_at(r, 0, HEAD);
+    let Outcome::Value(_) = due else {
         return due;
     };
-    if n != 4 {
-        return refusal(13, 0);
-    }
-    let version = packet::word(r[4], r[5]);
-    let count = packet::word(r[6], r[7]);
-    if version != 1 {
+    let version = word_at(r, HEADER);
+    let count = word_at(r, HEADER + 2);
+    if version != VERSION {
         return refusal(14, 0);
     }
     if count == 0 {

@@ -1,4 +1,11 @@
-// The crate report.
+// The report checker: whether the settings that a tuning report ships are those of its best trial.
+// Every answer is the verdict of specs/Report.antt, and demand 3 (specs/Claim.antt) holds of it.
+//   record   the record that is due at a place, and the refusals 11 to 13
+//   head     kind 1: the trial count
+//   trials   kind 2: each trial played, and the first of the lowest-scored
+//   end      kinds 3 and 4: the winner, and nothing after the shipping packets
+//   same     equality of settings
+//   verdict  the yes or the no: `check`
 mod end;
 mod head;
 mod record;

@@ -1,49 +1,24 @@
-// The record of a trial: score (4 bytes), packet bytes.
+// The trials, each a record of kind 2 (score, 4 bytes; packet bytes).
+use crate::record::HEADER;
 use crate::record::Outcome;
+use crate::record::TRIAL;
+use crate::record::long_at;
 use crate::record::record_at;
-use crate::record::refusal;
 use command::Settings;
 use command::play;
 ghost use mathlib.Core.Path.{_≡_};
-ghost use lib.ListN.{drop};
-ghost use Rattle.report.specs.Report.{readTrials};
-ghost use Rattle.report.specs.Inner.{trialIn, bestOf};
+ghost use Prim.Native.Nat.{_<_, _≤_};
+ghost use lib.ListN.{length};
+ghost use Rattle.report.specs.Inner.{BestAt};
 
-// A trial: the place after its record, and its score; 0 with a refusal. Its packets stand from byte 8
-// of the record to that place.
-pub(crate) struct Trial {
-    pub next: Outcome,
-    pub score: usize,
-}
+// Where the trials begin: after kind 1.
+const FIRST: usize = 8;
 
-// The trial at a place.
-pub(crate) fn trial_at(r: &[u8], at: usize) -> Trial
-    ensures { λ t. ⌜ t ≡ trialIn (readTrials 1 at (drop at (now (r .entry)))) ⌝ }
-{
-    let due = record_at(r, at, 2);
-    let Outcome::Value(n) = due else {
-        return Trial {
-            next: due,
-            score: 0,
-        };
-    };
-    let next = at + 4 + n;
-    if n < 4 {
-        return Trial {
-            next: refusal(13, at),
-            score: 0,
-        };
-    }
-    let low = packet::word(r[at + 4], r[at + 5]);
-    let high = packet::word(r[at + 6], r[at + 7]);
-    Trial {
-        next: Outcome::Value(next),
-        score: low + 65536 * high,
-    }
-}
+// Where a trial's packets begin in its record: after the header and the score.
+const PACKETS: usize = 8;
 
 // The first of the lowest-scored trials, with its score and the settings that it ended with, and the
-// place after all of them; 0 and factory values with a refusal.
+// place after all of them.
 pub(crate) struct Best {
     pub next: Outcome,
     pub trial: usize,
@@ -51,44 +26,52 @@ pub(crate) struct Best {
     pub settings: Settings,
 }
 
-// That many trials, from byte 8 on; trial 0 starts from factory values, each later trial from where
-// the last ended.
+// A trial that is due and not there: no trial is the best.
+fn missing(why: Outcome) -> Best
+    ensures { λ b. ⌜ b .next ≡ why ⌝ }
+{
+    Best {
+        next: why,
+        trial: 0,
+        score: 0,
+        settings: Settings::factory(),
+    }
+}
+
+// So many trials; trial 0 starts from factory values, each later trial from where the last ended.
 pub(crate) fn best_of(r: &[u8], count: usize) -> Best
-    ensures { λ t. ⌜ t ≡ bestOf (readTrials count 8 (drop 8 (now (r .entry)))) ⌝ }
+    requires { ⌜ (8 ≤ length (now r)) × (0 < count) ⌝ }
+    ensures { λ b. ⌜ BestAt (now (r .entry)) count (b .next) (b .trial) (b .score) (b .settings) ⌝ }
 {
     let start = Settings::factory();
     let mut last = start;
     let mut best = start;
-    let mut at: usize = 8;
+    let mut at: usize = FIRST;
     let mut trial: usize = 0;
-    let mut score: usize = 0;
+    let mut lowest: usize = 0;
     let mut i: usize = 0;
     while i < count {
-        let t = trial_at(r, at);
-        let next = t.next;
-        let Outcome::Value(place) = next else {
-            return Best {
-                next: next,
-                trial: 0,
-                score: 0,
-                settings: start,
-            };
+        let due = record_at(r, at, TRIAL);
+        let Outcome::Value(n) = due else {
+            return missing(due);
         };
-        let played = play(last, &r[at + 8..place]);
+        let next = at + HEADER + n;
+        let score = long_at(r, at + HEADER);
+        let played = play(last, &r[at + PACKETS..next]);
         let ended = played.settings;
-        if (i == 0) | (t.score < score) {
+        if (i == 0) | (score < lowest) {
             trial = i;
-            score = t.score;
+            lowest = score;
             best = ended;
         }
         last = ended;
-        at = place;
+        at = next;
         i += 1;
     }
     Best {
         next: Outcome::Value(at),
         trial: trial,
-        score: score,
+        score: lowest,
         settings: best,
     }
 }

@@ -1,6 +1,8 @@
-// The yes or the no.
+// The yes or the no to a report: refusals 18 and 19 after those of the reading.
+use crate::end::WINNER_RECORD;
 use crate::end::winner_of;
 use crate::head::count_of;
+use crate::record::HEADER;
 use crate::record::Outcome;
 use crate::record::refusal;
 use crate::same::same_settings;
@@ -52,8 +54,8 @@ pub fn check(r: &[u8]) -> Checked
     let Outcome::Value(_) = named else {
         return refused(named);
     };
-    let ship = place + 6;
-    let shipped = play(Settings::factory(), &r[ship + 4..]);
+    let ship = place + WINNER_RECORD;
+    let shipped = play(Settings::factory(), &r[ship + HEADER..]);
     if !shipped.clean {
         return refused(refusal(18, ship));
     }

@@ -71,6 +71,18 @@ pub holding-play : (s : Settings) (b : List ℕ) → Kept s → Fits s → Bytes
 unfolding play
 holding-play s b k f h = holding-after (from s) (packets b) (record { rules = k; fits = f; bytes = tt }) (packets-bytes b h)
 
+-- The same of the rules alone, whether or not what is played are bytes.
+kept-after : (a : State) (ps : List (List ℕ)) → Kept (a .settings) → Kept (after a ps .settings)
+unfolding after next judged
+kept-after a [] h = h
+kept-after a (p ∷ ps) h =
+    let j = judge (a .settings .mode) (a .transfer) (arrived p) in
+    kept-after (next a p) ps (kept-judgement (a .settings) j h (sound (a .settings .mode) (a .transfer) (arrived p)))
+
+pub kept-play : (s : Settings) (b : List ℕ) → Kept s → Kept (play s b .settings)
+unfolding play
+kept-play s b h = kept-after (from s) (packets b) h
+
 -- Packets in two runs.
 pub after-append : (a : State) (ps qs : List (List ℕ)) → after a (ps ++ qs) ≡ after (after a ps) qs
 unfolding after

@@ -6,16 +6,14 @@ use mathlib.Core.List.{List}
 use lib.Dec.{eqb}
 use Rattle.packet.specs.Number.{Bytes}
 use Rattle.report.specs.Report.{Verdict, Accepted, Refused, verdict}
-use Rattle.report.specs.Refusals.{Fault, F11, F12, F13-1, F13-2, F13-3, F14, F15, F16, F17, F18, F19, F20, Refusal, Long, Later}
+use Rattle.report.specs.Refusals.{Fault, F11, F12, F13, F14, F15, F16, F17, F18, F19, F20, Refusal, Long, Later}
 use Rattle.report.proofs.Refusals.{refused-exactly}
 use Rattle.imjarlet.specs.Answers.{verdictOf, toldBy}
 
 fault-number : {r : List ℕ} (n p : ℕ) → Fault r n p → eqb n 0 ≡ false
 fault-number n p (F11 kind at left due short) = refl
 fault-number n p (F12 kind at left other body more due is small differs) = refl
-fault-number n p (F13-1 body more is size) = refl
-fault-number n p (F13-2 k ts body more begins counted size) = refl
-fault-number n p (F13-3 ts body more begins counted size) = refl
+fault-number n p (F13 kind at left body more due is size) = refl
 fault-number n p (F14 version count more is small differs) = refl
 fault-number n p (F15 more is) = refl
 fault-number n p (F16 ts k more begins counted small above) = refl
