@@ -87,9 +87,9 @@ pub extern "C" fn dlpc200_receive(device: &mut Device, input: &[u8], out: &mut [
         × (r ≡ replyOf (receiveCall (now (device .entry)) (now (input .entry)) (now (out .entry)) .answer))
         × (now (out .exit) ≡ receiveCall (now (device .entry)) (now (input .entry)) (now (out .entry)) .output) ⌝ }
 {
-    let s = dlpc200_step(*device, input, out);
+    let s = crate::endpoint::receive(*device, input, out);
     *device = s.device;
-    s.reply
+    as_reply(s.answer)
 }
 
 // How many faults a response carries beside bit 6, by its Data[0] and Data[1].
