@@ -33,8 +33,7 @@ the-call =
             state = λ r. r .device;
             answer = λ r. r .answer;
             spells = tells S.the-type S′.the-laws;
-            state-is = λ r vs is. owed S.the-type S′.the-laws r vs is .0;
-            answer-is = λ r vs is. owed S.the-type S′.the-laws r vs is .1 .0;
+            are = owed S.the-type S′.the-laws;
           };
       Said =
           λ d input out r last. (outcomeOf (r .answer) ≡ receiveCall d input out .answer)

@@ -1,5 +1,6 @@
 -- `head_receive` meets its contract: it passes the controller and the two slices to `receive`, stores the controller of what that returns behind the reference, and answers by `receipt_of` (`steps`, of the packet layer's Lending).
 use mathlib.Core.Path.{_≡_, refl, ap, _∙_}
+use denote.Struct.Laws.{tells, owed}
 use Rattle.packet.proofs.Lending.{Call, struct-held, enum-held, lending, steps}
 use Rattle.command.specs.Endpoint.{outcomeOf, receiveCall}
 use Rattle.imjarlet.specs.Answers.{receiptOf}
@@ -11,7 +12,6 @@ use Rattle.command.proofs.endpoint.Answer as N
 use Rattle.command.proofs.endpoint.Answer.Laws as N′
 use Rattle.imjarlet.proofs.receipt.Receipt as E
 use Rattle.imjarlet.proofs.receipt.Receipt.Laws as E′
-use denote.Struct.Laws.{tells, owed}
 use Rattle.command.proofs.receive.Symbol as receive
 use Rattle.command.proofs.receive.Met as receive-met
 use Rattle.imjarlet.proofs.receipt.receipt_of.Symbol as receipt-of
@@ -33,8 +33,7 @@ the-call =
             state = λ r. r .controller;
             answer = λ r. r .answer;
             spells = tells S.the-type S′.the-laws;
-            state-is = λ r vs is. owed S.the-type S′.the-laws r vs is .0;
-            answer-is = λ r vs is. owed S.the-type S′.the-laws r vs is .1 .0;
+            are = owed S.the-type S′.the-laws;
           };
       Said =
           λ c input out r last. (outcomeOf (r .answer) ≡ receiveCall c input out .answer)
