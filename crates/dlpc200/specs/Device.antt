@@ -14,8 +14,8 @@ abbrev pub deviceWith : States → Device
 deviceWith s = record { states = s; receiver = fresh }
 
 -- Refusal 3: a state out of range, or a half-received packet that has all its bytes.
-unfoldable pub packetInRule : List ℕ → ℕ → Bool
+abbrev pub packetInRule : List ℕ → ℕ → Bool
 packetInRule header received = ltb received (7 + payloadLength header)
 
-unfoldable pub inRule : Device → Bool
+abbrev pub inRule : Device → Bool
 inRule d = inRange (d .states) && packetInRule (d .receiver .header) (d .receiver .received)

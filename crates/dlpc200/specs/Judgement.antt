@@ -1,6 +1,6 @@
 -- How a complete packet is judged, what a judgement changes, and the response that it draws.
 use Prim.Native.Nat.{ℕ}
-use mathlib.Core.Bool.{Bool, cond, not, _||_}
+use mathlib.Core.Bool.{Bool, cond, not, _&&_, _||_}
 use mathlib.Core.List.{List}
 use lib.Dec.{eqb, ltb}
 use Rattle.packet.specs.Packet.{payloadLength, payload}
@@ -52,8 +52,8 @@ arrived p = arrivedBy p (payload p) (rightSum p)
 
 -- CMD1 is neither 02 nor 04, or is the wrong one for its command
 unfoldable pub wrongCmd1 : Found → ℕ → Bool
-wrongCmd1 Unknown cmd1 = not (eqb cmd1 write || eqb cmd1 read)
-wrongCmd1 (Known c) cmd1 = not (eqb cmd1 write || eqb cmd1 read) || not (eqb cmd1 (cmd1For c))
+wrongCmd1 Unknown cmd1 = not (eqb cmd1 write) && not (eqb cmd1 read)
+wrongCmd1 (Known c) cmd1 = not (eqb cmd1 write) && not (eqb cmd1 read) || not (eqb cmd1 (cmd1For c))
 
 -- the data are under two or over 504 bytes, or not of the command's size
 unfoldable pub wrongSize : Found → ℕ → Bool

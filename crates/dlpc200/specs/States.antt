@@ -35,5 +35,5 @@ parkAfter GetInitFromParallelFlashFail v = v
 parkAfter GetOverallLedLampLitState v = v
 
 -- each state is in its section's range: 0 or 1, and that of 0029 from 0 to 7
-unfoldable pub inRange : States → Bool
+abbrev pub inRange : States → Bool
 inRange s = leb (s .park) 1 && leb (s .sequence) 1 && leb (s .eeprom) 1 && leb (s .flash) 7 && leb (s .lit) 1

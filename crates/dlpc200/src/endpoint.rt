@@ -57,14 +57,13 @@ pub fn receive(d: Device, input: &[u8], out: &mut [u8]) -> Step
         × (r .device ≡ receiveCall d (now (input .entry)) (now (out .entry)) .device)
         × (now (out .exit) ≡ receiveCall d (now (input .entry)) (now (out .entry)) .output) ⌝ }
 {
-    let ruled = d.in_rule();
     if out.len() < 64 {
         return Step {
             device: d,
             answer: Answer::ShortOutput,
         };
     }
-    if !ruled {
+    if !d.in_rule() {
         return Step {
             device: d,
             answer: Answer::OutOfRule,

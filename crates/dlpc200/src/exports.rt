@@ -1,4 +1,4 @@
-// exports.
+// The calls for C and Rust. An enum does not cross, so an answer is told as numbers.
 use crate::device::Device;
 use crate::endpoint::Answer;
 use crate::states::States;
@@ -18,13 +18,14 @@ pub struct Reply {
     pub length: usize,
 }
 
-// The device afterwards, and the answer.
+// An answer, and the device afterwards.
 #[repr(C)]
 pub struct Stepped {
     pub device: Device,
     pub reply: Reply,
 }
 
+// An answer as numbers.
 fn as_reply(a: Answer) -> Reply
     ensures { λ r. ⌜ r ≡ replyOf (outcomeOf a) ⌝ }
 {

@@ -86,7 +86,7 @@ done-faultless p c h = go (anyFault (faultsOf p)) refl h
 
 right-cmd1 : (c : Command) (n : ℕ) → wrongCmd1 (Known c) n ≡ false → n ≡ cmd1For c
 unfolding wrongCmd1
-right-cmd1 c n h = eqb-true n (cmd1For c) (not-false (eqb n (cmd1For c)) (or-right (not (eqb n write || eqb n read)) (not (eqb n (cmd1For c))) h))
+right-cmd1 c n h = eqb-true n (cmd1For c) (not-false (eqb n (cmd1For c)) (or-right (not (eqb n write) && not (eqb n read)) (not (eqb n (cmd1For c))) h))
 
 right-size : (c : Command) (n : ℕ) → wrongSize (Known c) n ≡ false → n ≡ sizeFor c
 unfolding wrongSize

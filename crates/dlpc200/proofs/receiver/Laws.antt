@@ -213,8 +213,10 @@ module _ (r : Receiver) (xs : List ℕ) (i : ℕ) where
       let g : getD (drop i xs) 0 0 ≡ getD xs i 0 = getD-drop i xs 0 0 ∙ ap (λ (k : ℕ). getD xs k 0) (add-zero i) in
       rw (packet-take-checksum (framedBy r) 0 xs i h (omega arith) l n, g, summed-nil r s)
 
-  pub take-nothing : r .sum < 256 → length xs ≤ i → after i (receiving r (drop i xs)) ≡ record { taken = i; complete = false; right = false; receiver = r }
-  take-nothing s l = ap (after i) (rw (drop-of-length-le xs {i = i} l) (no-bytes r s)) ∙ received-eq (add-zero i) refl refl
+  pub take-nothing : r .sum < 256 → length xs ≡ i → after i (receiving r (drop i xs)) ≡ record { taken = length xs; complete = false; right = false; receiver = r }
+  take-nothing s l =
+      let d : drop i xs ≡ [] = drop-of-length-le xs {i = i} (omega arith) in
+      rw (d, no-bytes r s) (received-eq (omega arith) refl refl)
 
   -- and so the loop goes on
   pub goes-on : {t : Received} {q : Receiver} → Made r → i < length xs → r .received < 6 + payloadLength (r .header) → t ≡ after i (receiving r (drop i xs))

@@ -4,11 +4,8 @@ use borrow.Author.Needs.{needs}
 use Rattle.dlpc200.proofs.judgement.judge.Statement.{statement}
 use Rattle.dlpc200.proofs.judgement.judge.Tie as tie
 
-returns : tie.Need-returns
-unfolding judge
-returns c = rw (c .judged .ensures, c .before .faults-in .ensures, c .before .before .command-in .ensures, c .before .before .before .word .ensures .0)
-
 pub judge-spec : {M : Type 1} → statement M
+unfolding judge
 judge-spec =
     tie.close
     (tie.spec
@@ -18,4 +15,4 @@ judge-spec =
     (λ c κs. search needs)
     (λ c κs. search needs)
     (λ c κs. search needs)
-    returns)
+    (λ c. rw (c .judged .ensures, c .before .faults-in .ensures, c .before .before .command-in .ensures, c .before .before .before .word .ensures .0)))

@@ -11,12 +11,6 @@ use borrow.Author.Needs.{needs}
 use Rattle.dlpc200.proofs.response.put_status.Statement.{statement}
 use Rattle.dlpc200.proofs.response.put_status.Tie as tie
 
-slice-write-out-2 : tie.Need-slice-write-out-2
-slice-write-out-2 c = simp length-set (omega arith)
-
-slice-write-out-3 : tie.Need-slice-write-out-3
-slice-write-out-3 c = simp length-set (omega arith)
-
 returns : tie.Need-returns
 unfolding packetOf bytesOf
 returns c =
@@ -35,7 +29,7 @@ put-status-spec =
     (λ c κs. search needs)
     (λ c κs. search needs)
     (λ c. search needs)
-    slice-write-out-2
-    slice-write-out-3
+    (λ c. simp length-set (omega arith))
+    (λ c. simp length-set (omega arith))
     (λ c. search needs)
     returns)

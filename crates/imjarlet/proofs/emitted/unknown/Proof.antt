@@ -2,8 +2,6 @@
 use borrow.Author.Tests.{lt-ltb, le-ltb}
 use Rattle.imjarlet.proofs.emitted.unknown.Statement.{statement}
 use Rattle.imjarlet.proofs.emitted.unknown.Tie as tie
-use Rattle.imjarlet.proofs.emitted.unknown.Reads as reads
-use Rattle.imjarlet.proofs.emitted.unknown.Lts as lts
 
 returns : tie.Need-returns
 returns c = rw (lt-ltb _ _ (c .if1 .taken))
