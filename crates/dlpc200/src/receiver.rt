@@ -1,5 +1,8 @@
 // The receiver: takes one packet from a stream of bytes, byte by byte as the stream arrives.
+ghost use mathlib.Core.Bool.{cond};
 ghost use mathlib.Core.Path.{_≡_};
+ghost use Prim.Native.Nat.{_+_, _%_};
+ghost use lib.Dec.{ltb};
 ghost use Rattle.dlpc200.specs.Device.{packetInRule};
 ghost use Rattle.dlpc200.specs.Receiver.{receiving};
 
@@ -24,6 +27,16 @@ pub(crate) struct Received {
     pub complete: bool,
     pub right: bool,
     pub receiver: Receiver,
+}
+
+// The sum with one byte more, so many having come in before it: CMD1 to CMD4 are not summed.
+fn summed(sum: u8, received: usize, b: u8) -> u8
+    ensures { λ r. ⌜ r ≡ cond (ltb received 4) sum ((sum + b) % 256) ⌝ }
+{
+    if received < 4 {
+        return sum;
+    }
+    std::num::wrapping_add_u8(sum, b)
 }
 
 impl Receiver {
@@ -58,15 +71,11 @@ impl Receiver {
                 };
             }
             self.received = received + 1;
-            if received < 4 {
+            self.sum = summed(self.sum, received, b);
+            if received < 6 {
                 self.header[received] = b;
-            } else {
-                self.sum = std::num::wrapping_add_u8(self.sum, b);
-                if received < 6 {
-                    self.header[received] = b;
-                } else if received < 8 {
-                    self.id[received - 6] = b;
-                }
+            } else if received < 8 {
+                self.id[received - 6] = b;
             }
         }
         Received {

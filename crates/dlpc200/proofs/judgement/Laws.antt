@@ -158,15 +158,6 @@ pub bit-6-alone : (data0 noFaults ≡ 0x40) × (data1 noFaults ≡ 0)
 unfolding data0 data1
 bit-6-alone = (refl, refl)
 
--- The response to a failed packet: the two status bytes only, as a read response for CMD1 04 and a write response otherwise.
-pub failed-answer : (s : States) (p : Arrived) (f : Faults) → judge p ≡ Failed f → response s p (judge p) ≡ packetOf (responseType (p .cmd1)) (data0 f ∷ data1 f ∷ [])
-unfolding response
-failed-answer s p f h = rw h
-
--- A failed packet changes no state.
-pub failed-leaves : (s : States) (j : Judgement) (f : Faults) → j ≡ Failed f → statesAfter s j ≡ s
-failed-leaves s j f h = ap (statesAfter s) h
-
 -- In range stays in range.
 
 park-bit : (c : Command) (v : ℕ) → leb v 1 ≡ true → leb (parkAfter c v) 1 ≡ true

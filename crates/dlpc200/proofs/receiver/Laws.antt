@@ -18,7 +18,7 @@ use Rattle.packet.specs.declared.receiver.Received.{Received as PacketReceived}
 use Rattle.packet.proofs.Cases.{bool-cases}
 use Rattle.packet.proofs.StreamLaws.{IsPacket}
 use Rattle.packet.proofs.BytesLaws.{sum-append}
-use Rattle.packet.proofs.ReceiverLaws.{with-nil as packet-with-nil, missing-least, waits as packet-waits, completes as packet-completes, after as packetAfter, cut as packet-cut, behind as packet-behind, take-byte as packet-take-byte, take-checksum as packet-take-checksum, with-header, with-held, with-dropped, Between as PacketBetween, first-of as packet-first-of, too-few as packet-too-few}
+use Rattle.packet.proofs.ReceiverLaws.{with-nil as packet-with-nil, missing-least, waits as packet-waits, completes as packet-completes, after as packetAfter, cut as packet-cut, behind as packet-behind, take-byte as packet-take-byte, take-checksum as packet-take-checksum, with-header as packet-with-header, with-held, with-dropped, Between as PacketBetween, first-of as packet-first-of, too-few as packet-too-few}
 use Rattle.dlpc200.specs.Packet.{checksum, rightSum}
 use Rattle.dlpc200.specs.Receiver.{framedBy, summed, with, taking, receiving}
 use Rattle.dlpc200.specs.declared.receiver.Receiver.{Receiver}
@@ -70,14 +70,13 @@ summed-nil : (r : Receiver) → r .sum < 256 → summed r [] ≡ r .sum
 unfolding summed sum
 summed-nil r h = rw (drop-nil (4 - r .received)) (omega arith)
 
--- a byte up to CMD4, and one after it
-summed-before : (r : Receiver) (b : ℕ) → r .received < 4 → r .sum < 256 → summed r (b ∷ []) ≡ r .sum
+-- one byte, up to CMD4 or after it
+summed-one : (r : Receiver) (b : ℕ) → r .sum < 256 → summed r (b ∷ []) ≡ cond (ltb (r .received) 4) (r .sum) ((r .sum + b) % 256)
 unfolding summed sum
-summed-before r b h l = rw (drop-of-length-le (b ∷ []) {i = 4 - r .received} (omega arith)) (omega arith)
-
-summed-behind : (r : Receiver) (b : ℕ) → 4 ≤ r .received → summed r (b ∷ []) ≡ (r .sum + b) % 256
-unfolding summed sum
-summed-behind r b h = let z : 4 - r .received ≡ 0 = omega arith in rw z (omega arith)
+summed-one r b l =
+    bool-cases (ltb (r .received) 4)
+    (λ e. let h = ltb-true (r .received) 4 e in rw (e, drop-of-length-le (b ∷ []) {i = 4 - r .received} (omega arith)) (omega arith))
+    (λ e. let z : 4 - r .received ≡ 0 = omega (arith, ltb-false (r .received) 4 e) in rw (e, z) (omega arith))
 
 pub made-with : (r : Receiver) (b : List ℕ) → Made r → Made (with r b)
 unfolding with packetWith summed
@@ -223,30 +222,22 @@ module _ (r : Receiver) (xs : List ℕ) (i : ℕ) where
       → with r (getD xs i 0 ∷ []) ≡ q → (i + 1 ≤ length xs) × Made q × (t ≡ after (i + 1) (receiving q (drop (i + 1) xs)))
   goes-on m l n h e = (omega arith, subst Made e (made-with r (getD xs i 0 ∷ []) m), h ∙ one-more (m .header) l n e)
 
--- The receiver with one byte more: up to CMD4, of the length field, of the ID, or of the data behind it.
-module _ (r : Receiver) (b : ℕ) where
-  with-by : {q : PacketReceiver} {s : ℕ} → packetWith (framedBy r) 0 (b ∷ []) ≡ q → summed r (b ∷ []) ≡ s
-      → with r (b ∷ []) ≡ record { header = q .header; id = q .hold; sum = s; received = q .received }
+-- The receiver with one byte more: of the header, of the ID, or of the data after it.
+module _ (r : Receiver) (b : ℕ) (m : Made r) {s : ℕ} (e : s ≡ cond (ltb (r .received) 4) (r .sum) ((r .sum + b) % 256)) where
+  with-by : {q : PacketReceiver} → packetWith (framedBy r) 0 (b ∷ []) ≡ q → with r (b ∷ []) ≡ record { header = q .header; id = q .hold; sum = s; received = q .received }
   unfolding with
-  with-by e f = rw (e, f)
+  with-by f = rw (f, summed-one r b (m .sum), e)
 
-  pub with-command : r .received < 4 → r .sum < 256 → with r (b ∷ []) ≡ record { header = set (r .header) (r .received) b; id = r .id; sum = r .sum; received = r .received + 1 }
-  with-command h s = with-by (with-header (framedBy r) 0 b {s = b % 256} (omega arith) (omega arith)) (summed-before r b h s)
+  pub with-header : r .received < 6 → with r (b ∷ []) ≡ record { header = set (r .header) (r .received) b; id = r .id; sum = s; received = r .received + 1 }
+  with-header l = with-by (packet-with-header (framedBy r) 0 b {s = b % 256} l (omega arith))
 
-  pub with-length : {s : ℕ} → 4 ≤ r .received → r .received < 6 → s ≡ (r .sum + b) % 256
-      → with r (b ∷ []) ≡ record { header = set (r .header) (r .received) b; id = r .id; sum = s; received = r .received + 1 }
-  with-length h l e = with-by (with-header (framedBy r) 0 b {s = b % 256} l (omega arith)) (summed-behind r b h ∙ sym e)
-
-  pub with-id : {s : ℕ} → length (r .header) ≡ 6 → 6 ≤ r .received → s ≡ (r .sum + b) % 256
-      → with r (b ∷ []) ≡ record { header = r .header; id = set (r .id) (r .received - 6) b; sum = s; received = r .received + 1 }
-  with-id n h e =
+  pub with-id : 6 ≤ r .received → with r (b ∷ []) ≡ record { header = r .header; id = set (r .id) (r .received - 6) b; sum = s; received = r .received + 1 }
+  with-id h =
       let z : 0 + (r .received - 6) ≡ r .received - 6 = omega arith in
-      rw z at (with-by (with-held (framedBy r) 0 b {s = b % 256} n h (omega arith)) (summed-behind r b (omega arith) ∙ sym e))
+      rw z at (with-by (with-held (framedBy r) 0 b {s = b % 256} (m .header) h (omega arith)))
 
-  pub with-data : {s : ℕ} → Made r → 8 ≤ r .received → s ≡ (r .sum + b) % 256
-      → with r (b ∷ []) ≡ record { header = r .header; id = r .id; sum = s; received = r .received + 1 }
-  with-data m h e =
-      with-by (with-dropped (framedBy r) 0 b {s = b % 256} (m .header) (omega arith) (omega arith) (omega (arith, m .id))) (summed-behind r b (omega arith) ∙ sym e)
+  pub with-data : 8 ≤ r .received → with r (b ∷ []) ≡ record { header = r .header; id = r .id; sum = s; received = r .received + 1 }
+  with-data h = with-by (with-dropped (framedBy r) 0 b {s = b % 256} (m .header) (omega arith) (omega arith) (omega (arith, m .id)))
 
 -- A receiver between two packets.
 pub record Between (r : Receiver) : Type 0 where

@@ -1,22 +1,24 @@
 -- `put_state` meets its contract.
-use native.Mathlib.Omega.{arith}
-use lib.ListN.{length-set}
+use Prim.Native.Nat.{ℕ}
+use mathlib.Core.List.{List, [], _∷_}
 use mathlib.Core.Path.{refl}
-use denote.Ref.{now}
-use Rattle.packet.specs.Number.{bytesOf}
-use Rattle.dlpc200.specs.Packet.{packetOf}
-use Rattle.dlpc200.proofs.response.Laws.{state-stored}
+use native.Mathlib.Omega.{arith}
 use borrow.Author.Needs.{needs}
+use denote.Ref.{now}
+use lib.ListN.{length-set}
+use Rattle.packet.specs.Number.{bytesOf}
+use Rattle.packet.specs.Packet.{sum}
+use Rattle.dlpc200.specs.Packet.{checksum, packetOf}
+use Rattle.dlpc200.proofs.response.Laws.{stored}
 use Rattle.dlpc200.proofs.response.put_state.Statement.{statement}
 use Rattle.dlpc200.proofs.response.put_state.Tie as tie
 
 returns : tie.Need-returns
 unfolding packetOf bytesOf
 returns c =
-    let a = c .before .before .before .before .before .before .args in (
-      refl,
-      rw (c .before .before .put-header .ensures) (state-stored (now (a .out)) (c .before .before .before .before .before .before .pre) (a .kind) (a .state) (c .before .before .before .before .wrapping-add-u8 .ensures)),
-    )
+    let k = c .before .before .before .before .before .before in
+    let a = k .args in
+    (refl, rw (c .before .before .put-header .ensures) (stored (now (a .out)) (a .kind) (0x00 ∷ 0x00 ∷ a .state ∷ []) (k .pre) (unfold checksum sum in omega arith)))
 
 pub put-state-spec : {M : Type 1} → statement M
 put-state-spec =
