@@ -1,12 +1,11 @@
 -- The receive call: when it refuses, and what it answers and leaves.
 use Prim.Native.Nat.{ℕ}
-use mathlib.Core.Bool.{Bool, true, cond}
+use mathlib.Core.Bool.{cond}
 use mathlib.Core.List.{List}
 use lib.Dec.{ltb}
 use lib.ListN.{length}
 use Rattle.packet.specs.Writer.{written}
 use Rattle.dlpc200.specs.Receiver.{receiving}
-use Rattle.dlpc200.specs.declared.receiver.Receiver.{Receiver}
 use Rattle.dlpc200.specs.declared.receiver.Received.{Received}
 use Rattle.dlpc200.specs.Judgement.{Arrived, arrivedBy, judge, statesAfter}
 use Rattle.dlpc200.specs.Response.{response}
@@ -38,10 +37,6 @@ judgedIn t = judge (arrivedIn t)
 
 unfoldable pub responseIn : States → Received → List ℕ
 responseIn s t = response s (arrivedIn t) (judgedIn t)
-
--- what the receiver answers when a packet is complete
-abbrev pub completeBy : ℕ → Bool → Receiver → Received
-completeBy n right r = record { taken = n; complete = true; right = right; receiver = r }
 
 -- The receive call: the answer, the device afterwards, and the output.
 pub record After : Type 0 where
