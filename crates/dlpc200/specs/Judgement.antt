@@ -76,11 +76,8 @@ judgeCommand Unknown = Failed noFaults
 judgeCommand (Known c) = Done c
 
 -- a packet fails if a fault holds, or its command is unknown
-unfoldable pub judgedBy : Faults → Found → Judgement
-judgedBy f c = cond (anyFault f) (Failed f) (judgeCommand c)
-
 unfoldable pub judge : Arrived → Judgement
-judge p = judgedBy (faultsOf p) (p .command)
+judge p = cond (anyFault (faultsOf p)) (Failed (faultsOf p)) (judgeCommand (p .command))
 
 -- What a judgement changes: park sets what 0015 reads and unpark clears it; a failed packet changes nothing.
 

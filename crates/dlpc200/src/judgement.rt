@@ -8,7 +8,8 @@ use crate::status::Faults;
 use crate::table::Command;
 use crate::table::Found;
 ghost use mathlib.Core.Path.{_≡_};
-ghost use Rattle.dlpc200.specs.Judgement.{arrivedBy, arrivedOf, commandIn, faultsOf, judge as judgeOf, judgedBy, statesAfter, wrongCmd1, wrongSize};
+ghost use Rattle.packet.specs.Packet.{payloadLength};
+ghost use Rattle.dlpc200.specs.Judgement.{arrivedBy, arrivedOf, commandIn, faultsOf, judge as judgeOf, statesAfter, wrongCmd1, wrongSize};
 
 // A packet of a command has its ID as data, and nothing else.
 const ID_SIZE: usize = 2;
@@ -22,11 +23,11 @@ pub(crate) enum Judgement {
     Done(Command),
 }
 
-// The command of a packet with so many data bytes, of which these are the first.
-fn command_in(size: usize, id: [u8; 2]) -> Found
-    ensures { λ r. ⌜ r ≡ commandIn size id ⌝ }
+// The command of a packet with this header, these being its first two data bytes.
+fn command_in(header: [u8; 6], id: [u8; 2]) -> Found
+    ensures { λ r. ⌜ r ≡ commandIn (payloadLength header) id ⌝ }
 {
-    if size < ID_SIZE {
+    if packet::word(header[4], header[5]) < ID_SIZE {
         return Found::Unknown;
     }
     Command::find(packet::word(id[0], id[1]))
@@ -67,10 +68,12 @@ fn faults_in(found: Found, header: [u8; 6], right: bool) -> Faults
     }
 }
 
-// A packet of this command with these faults.
-fn judged(faults: Faults, found: Found) -> Judgement
-    ensures { λ r. ⌜ r ≡ judgedBy faults found ⌝ }
+// A complete packet: its header, its first two data bytes, and whether its checksum was right.
+pub(crate) fn judge(header: [u8; 6], id: [u8; 2], right: bool) -> Judgement
+    ensures { λ r. ⌜ r ≡ judgeOf (arrivedBy header id right) ⌝ }
 {
+    let found = command_in(header, id);
+    let faults = faults_in(found, header, right);
     if faults.any() {
         return Judgement::Failed(faults);
     }
@@ -78,14 +81,6 @@ fn judged(faults: Faults, found: Found) -> Judgement
         Found::Known(c) => Judgement::Done(c),
         Found::Unknown => Judgement::Failed(Faults::NONE),
     }
-}
-
-// A complete packet: its header, its first two data bytes, and whether its checksum was right.
-pub(crate) fn judge(header: [u8; 6], id: [u8; 2], right: bool) -> Judgement
-    ensures { λ r. ⌜ r ≡ judgeOf (arrivedBy header id right) ⌝ }
-{
-    let found = command_in(packet::word(header[4], header[5]), id);
-    judged(faults_in(found, header, right), found)
 }
 
 // The states after a packet that was judged so.

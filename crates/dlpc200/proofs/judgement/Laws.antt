@@ -2,7 +2,7 @@
 use Prim.Native.Nat.{ℕ, suc, _+_, _*_, _<_}
 use mathlib.Core.Path.{_≡_, refl, ap, sym, _∙_}
 use mathlib.Core.Bool.{Bool, true, false, cond, not, _&&_, _||_}
-use mathlib.Core.List.{List, [], _∷_}
+use mathlib.Core.List.{List, _∷_}
 use native.Mathlib.Omega.{arith}
 use lib.Dec.{eqb, leb, ltb}
 use borrow.Author.Tests.{lt-ltb, le-ltb, eqb-true, not-false}
@@ -15,7 +15,7 @@ use Rattle.dlpc200.specs.Packet.{write, read, extended, only, checksum, 
 use Rattle.dlpc200.specs.Table.{cmd1For, sizeFor}
 use Rattle.dlpc200.specs.States.{parkAfter, inRange}
 use Rattle.dlpc200.specs.Status.{anyFault, noFaults, data0, data1, faultBits, faultsHeld}
-use Rattle.dlpc200.specs.Judgement.{Arrived, arrived, wrongCmd1, wrongSize, faultsOf, judgeCommand, judgedBy, judge, withPark, statesAfter}
+use Rattle.dlpc200.specs.Judgement.{Arrived, arrived, wrongCmd1, wrongSize, faultsOf, judgeCommand, judge, withPark, statesAfter}
 use Rattle.dlpc200.specs.Response.{responseType, responseData, response}
 use Rattle.dlpc200.specs.declared.table.Command.{Command}
 use Rattle.dlpc200.specs.declared.table.Command.the-variants.{ParkDmd, UnparkDmd, GetDmdSoftwareParkState, GetSeqRunState, GetEepromFault, GetInitFromParallelFlashFail, GetOverallLedLampLitState}
@@ -76,7 +76,7 @@ known-done Unknown c h = let z : _≡_ {A = ℕ} 0 1 = cc in absurd (omega arith
 known-done (Known d) c h = cc
 
 done-faultless : (p : Arrived) (c : Command) → judge p ≡ Done c → (anyFault (faultsOf p) ≡ false) × (p .command ≡ Known c)
-unfolding judge judgedBy
+unfolding judge
 done-faultless p c h = go (anyFault (faultsOf p)) refl h
   where
     go : (b : Bool) → anyFault (faultsOf p) ≡ b → cond b (Failed (faultsOf p)) (judgeCommand (p .command)) ≡ Done c
@@ -111,17 +111,17 @@ unfolding wrongCmd1
 cmd1-fits = each (λ c. wrongCmd1 (Known c) (cmd1For c) ≡ false) (refl, refl, refl, refl, refl, refl, refl)
 
 pub carried-out : (p : Arrived) (c : Command) → CarriedOut p c → judge p ≡ Done c
-unfolding judge judgedBy anyFault faultsOf
+unfolding judge anyFault faultsOf
 carried-out p c h = rw (h .command, h .right, h .cmd1, h .cmd2, h .cmd4, h .size, cmd1-fits c) (unfold wrongSize in refl)
 
 -- and fails otherwise: with its faults if it has one, and with none of their bits if its command alone is unknown.
 
 pub fails : (p : Arrived) → anyFault (faultsOf p) ≡ true → judge p ≡ Failed (faultsOf p)
-unfolding judge judgedBy
+unfolding judge
 fails p h = rw h
 
 pub unknown-alone : (p : Arrived) → anyFault (faultsOf p) ≡ false → p .command ≡ Unknown → judge p ≡ Failed noFaults
-unfolding judge judgedBy
+unfolding judge
 unknown-alone p h k = rw (h, k)
 
 -- Under two or over 504 data bytes fail, whatever the command.
@@ -201,7 +201,7 @@ bits-command s n Unknown = faults-counted noFaults ∙ (unfold faultsHeld in ref
 bits-command s n (Known c) = unfold faultBits ones onesIn in refl
 
 pub faults-told : (s : States) (p : Arrived) → faultBits (getD (response s p (judge p)) 6 0) (getD (response s p (judge p)) 7 0) ≡ faultsHeld (faultsOf p)
-unfolding response judge judgedBy bits-of
+unfolding response judge bits-of
 faults-told s p =
     bool-cases (anyFault (faultsOf p))
     (λ e. ap (λ (b : Bool). bits-of s (responseType (p .cmd1)) (cond b (Failed (faultsOf p)) (judgeCommand (p .command)))) e ∙ bits-failed s (responseType (p .cmd1)) (faultsOf p))

@@ -1,5 +1,5 @@
 -- Responses as they are written: the bytes stored, and the packet that they are.
-use Prim.Native.Nat.{ℕ, _+_, _%_, _≤_}
+use Prim.Native.Nat.{ℕ, _+_, _≤_}
 use mathlib.Core.Path.{_≡_, refl, ap, _∙_}
 use mathlib.Core.Bool.{true}
 use mathlib.Core.List.{List, [], _∷_, _++_}
@@ -8,7 +8,6 @@ use borrow.Author.Tests.{eq-eqb}
 use lib.ListN.{length, take, drop}
 use lib.Seq.{sets}
 use Rattle.packet.specs.Number.{bytesOf}
-use Rattle.packet.specs.Packet.{sum}
 use Rattle.packet.specs.Stream.{size}
 use Rattle.packet.proofs.BytesLaws.{sets-front}
 use Rattle.packet.proofs.StreamLaws.{IsPacket}
