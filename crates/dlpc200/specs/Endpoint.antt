@@ -65,7 +65,7 @@ answered s t out =
 abbrev pub ended : States → Received → List ℕ → After
 ended s t out = cond (t .complete) (answered s t out) (waiting s t out)
 
--- tested in the order 1, 3
+-- "calls keep 1, then 3": an output shorter than 64 bytes, then a device out of rule
 unfoldable pub receiveCall : Device → List ℕ → List ℕ → After
 receiveCall d input out =
     cond (ltb (length out) 64) (refused 1 d out) (cond (inRule d) (ended (d .states) (receiving (d .receiver) input) out) (refused 3 d out))
