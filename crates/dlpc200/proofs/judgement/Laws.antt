@@ -1,7 +1,7 @@
 -- What a judgement says of its packet, and what it keeps.
 use Prim.Native.Nat.{ℕ, suc, _+_, _*_, _<_}
 use mathlib.Core.Path.{_≡_, refl, ap, sym, _∙_}
-use mathlib.Core.Bool.{Bool, true, false, cond, not, _&&_, _||_}
+use mathlib.Core.Bool.{true, false, not, _&&_, _||_}
 use mathlib.Core.List.{List, _∷_}
 use native.Mathlib.Omega.{arith}
 use lib.Dec.{eqb, leb, ltb}
@@ -10,7 +10,7 @@ use lib.ListN.{getD}
 use lib.Count.{onesIn, ones}
 use Rattle.packet.specs.Number.{bytesOf}
 use Rattle.packet.specs.Packet.{payload}
-use Rattle.packet.proofs.Cases.{bool-cases, and-left, or-left, or-right}
+use Rattle.packet.proofs.Cases.{cond-cases, and-left, or-left, or-right}
 use Rattle.dlpc200.specs.Packet.{write, read, extended, only, checksum, rightSum, packetOf}
 use Rattle.dlpc200.specs.Table.{cmd1For, sizeFor}
 use Rattle.dlpc200.specs.States.{parkAfter, inRange}
@@ -77,12 +77,10 @@ known-done (Known d) c h = cc
 
 done-faultless : (p : Arrived) (c : Command) → judge p ≡ Done c → (anyFault (faultsOf p) ≡ false) × (p .command ≡ Known c)
 unfolding judge
-done-faultless p c h = go (anyFault (faultsOf p)) refl h
-  where
-    go : (b : Bool) → anyFault (faultsOf p) ≡ b → cond b (Failed (faultsOf p)) (judgeCommand (p .command)) ≡ Done c
-        → (anyFault (faultsOf p) ≡ false) × (p .command ≡ Known c)
-    go true e h = let z : _≡_ {A = ℕ} 0 1 = cc in absurd (omega arith)
-    go false e h = (e, known-done (p .command) c h)
+done-faultless p c =
+    cond-cases (λ j. j ≡ Done c → (anyFault (faultsOf p) ≡ false) × (p .command ≡ Known c)) (anyFault (faultsOf p))
+    (λ e h. let z : _≡_ {A = ℕ} 0 1 = cc in absurd (omega arith))
+    (λ e h. (e, known-done (p .command) c h))
 
 right-cmd1 : (c : Command) (n : ℕ) → wrongCmd1 (Known c) n ≡ false → n ≡ cmd1For c
 unfolding wrongCmd1
@@ -126,23 +124,18 @@ unknown-alone p h k = rw (h, k)
 
 -- Under two or over 504 data bytes fail, whatever the command.
 
-under-two : (f : Found) (n : ℕ) → n < 2 → wrongSize f n ≡ true
+outside : (f : Found) (n : ℕ) → (ltb n 2 || ltb 504 n) ≡ true → wrongSize f n ≡ true
 unfolding wrongSize
-under-two Unknown n h = rw (lt-ltb n 2 h)
-under-two (Known c) n h = rw (lt-ltb n 2 h)
-
-over-504 : (f : Found) (n : ℕ) → 504 < n → wrongSize f n ≡ true
-unfolding wrongSize
-over-504 Unknown n h = rw (le-ltb n 2 (omega arith), lt-ltb 504 n h)
-over-504 (Known c) n h = rw (le-ltb n 2 (omega arith), lt-ltb 504 n h)
+outside Unknown n h = h
+outside (Known c) n h = rw h
 
 pub short-data : (p : Arrived) → p .size < 2 → faultsOf p .size ≡ true
 unfolding faultsOf
-short-data p h = under-two (p .command) (p .size) h
+short-data p h = outside (p .command) (p .size) (rw (lt-ltb (p .size) 2 h))
 
 pub long-data : (p : Arrived) → 504 < p .size → faultsOf p .size ≡ true
 unfolding faultsOf
-long-data p h = over-504 (p .command) (p .size) h
+long-data p h = outside (p .command) (p .size) (rw (le-ltb (p .size) 2 (omega arith), lt-ltb 504 (p .size) h))
 
 -- CMD3 is not judged: a packet with another is the same to the rules.
 
@@ -173,10 +166,7 @@ park-range s h =
     and-left a b (and-left (a && b) c (and-left (a && b && c) d (and-left (a && b && c && d) (leb (s .lit) 1) h)))
 
 with-range : (s : States) (v : ℕ) → inRange s ≡ true → leb v 1 ≡ true → inRange (withPark s v) ≡ true
-with-range s v h k = go (k ∙ sym (park-range s h)) h
-  where
-    go : leb v 1 ≡ leb (s .park) 1 → inRange s ≡ true → inRange (withPark s v) ≡ true
-    go e h = unfold inRange in rw e h
+with-range s v h k = let e : leb v 1 ≡ leb (s .park) 1 = k ∙ sym (park-range s h) in rw e h
 
 pub in-range-kept : (s : States) (j : Judgement) → inRange s ≡ true → inRange (statesAfter s j) ≡ true
 in-range-kept s (Failed f) h = h
@@ -203,9 +193,6 @@ bits-command s n (Known c) = unfold faultBits ones onesIn in refl
 pub faults-told : (s : States) (p : Arrived) → faultBits (getD (response s p (judge p)) 6 0) (getD (response s p (judge p)) 7 0) ≡ faultsHeld (faultsOf p)
 unfolding response judge bits-of
 faults-told s p =
-    bool-cases (anyFault (faultsOf p))
-    (λ e. ap (λ (b : Bool). bits-of s (responseType (p .cmd1)) (cond b (Failed (faultsOf p)) (judgeCommand (p .command)))) e ∙ bits-failed s (responseType (p .cmd1)) (faultsOf p))
-    (λ e.
-    ap (λ (b : Bool). bits-of s (responseType (p .cmd1)) (cond b (Failed (faultsOf p)) (judgeCommand (p .command)))) e
-    ∙ bits-command s (responseType (p .cmd1)) (p .command)
-    ∙ sym (none-held (faultsOf p) e))
+    cond-cases (λ j. bits-of s (responseType (p .cmd1)) j ≡ faultsHeld (faultsOf p)) (anyFault (faultsOf p))
+    (λ e. bits-failed s (responseType (p .cmd1)) (faultsOf p))
+    (λ e. bits-command s (responseType (p .cmd1)) (p .command) ∙ sym (none-held (faultsOf p) e))

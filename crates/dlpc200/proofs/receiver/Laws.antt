@@ -189,16 +189,6 @@ no-bytes r s =
 
 -- One byte of a call, as the code goes through its input.
 module _ (r : Receiver) (xs : List ℕ) (i : ℕ) where
-  -- a byte that is not the checksum, where q is the receiver with that byte
-  one-more : {q : Receiver} → length (r .header) ≡ 6 → i < length xs → r .received < 6 + payloadLength (r .header) → with r (getD xs i 0 ∷ []) ≡ q
-      → after i (receiving r (drop i xs)) ≡ after (i + 1) (receiving q (drop (i + 1) xs))
-  one-more {q} h l n e =
-      let d : drop i xs ≡ getD xs i 0 ∷ drop (i + 1) xs = rw (add-one i) (drop-cons xs i 0 l) in
-      ap (λ (b : List ℕ). after i (receiving r b)) d
-      ∙ ap (after i) (go-on r (getD xs i 0 ∷ []) (drop (i + 1) xs) (rw d at (packet-take-byte (framedBy r) 0 xs i h l n)))
-      ∙ ap (λ (x : Receiver). after i (after 1 (receiving x (drop (i + 1) xs)))) e
-      ∙ after-after i 1 (receiving q (drop (i + 1) xs))
-
   pub take-checksum : length (r .header) ≡ 6 → r .sum < 256 → i < length xs → 6 + payloadLength (r .header) ≤ r .received
       → receiving r (drop i xs)
       ≡ record {
@@ -217,10 +207,19 @@ module _ (r : Receiver) (xs : List ℕ) (i : ℕ) where
       let d : drop i xs ≡ [] = drop-of-length-le xs {i = i} (omega arith) in
       rw (d, no-bytes r s) (received-eq (omega arith) refl refl)
 
-  -- and so the loop goes on
+  -- a byte that is not the checksum, where q is the receiver with that byte: the loop goes on
   pub goes-on : {t : Received} {q : Receiver} → Made r → i < length xs → r .received < 6 + payloadLength (r .header) → t ≡ after i (receiving r (drop i xs))
       → with r (getD xs i 0 ∷ []) ≡ q → (i + 1 ≤ length xs) × Made q × (t ≡ after (i + 1) (receiving q (drop (i + 1) xs)))
-  goes-on m l n h e = (omega arith, subst Made e (made-with r (getD xs i 0 ∷ []) m), h ∙ one-more (m .header) l n e)
+  goes-on {t} {q} m l n h e =
+      let d : drop i xs ≡ getD xs i 0 ∷ drop (i + 1) xs = rw (add-one i) (drop-cons xs i 0 l) in (
+        omega arith,
+        subst Made e (made-with r (getD xs i 0 ∷ []) m),
+        h
+            ∙ ap (λ (b : List ℕ). after i (receiving r b)) d
+            ∙ ap (after i) (go-on r (getD xs i 0 ∷ []) (drop (i + 1) xs) (rw d at (packet-take-byte (framedBy r) 0 xs i (m .header) l n)))
+            ∙ ap (λ (x : Receiver). after i (after 1 (receiving x (drop (i + 1) xs)))) e
+            ∙ after-after i 1 (receiving q (drop (i + 1) xs)),
+      )
 
 -- The receiver with one byte more: of the header, of the ID, or of the data after it.
 module _ (r : Receiver) (b : ℕ) (m : Made r) {s : ℕ} (e : s ≡ cond (ltb (r .received) 4) (r .sum) ((r .sum + b) % 256)) where
