@@ -9,6 +9,7 @@ use Rattle.dlpc200.specs.States.{parkAfter, inRange}
 use Rattle.dlpc200.specs.Status.{faultBits, faultsHeld, data0, data1}
 use Rattle.dlpc200.specs.Judgement.{arrived, faultsOf, statesAfter}
 use Rattle.dlpc200.specs.Response.{responseType, response}
+use Rattle.dlpc200.specs.declared.table.Command.{Command}
 use Rattle.dlpc200.specs.declared.table.Command.the-variants.{ParkDmd, UnparkDmd, GetDmdSoftwareParkState}
 use Rattle.dlpc200.specs.declared.status.Faults.{Faults}
 use Rattle.dlpc200.specs.declared.judgement.Judgement.{Judgement}
@@ -21,7 +22,7 @@ use Rattle.dlpc200.specs.Playing.{judged, answerTo, next, after}
 
 pub failed-leaves : (s : States) (p : List ℕ) (f : Faults) → judged p ≡ Failed f → next s p ≡ s
 unfolding next
-failed-leaves s p f h = judgements.failed-leaves s (judged p) f h
+failed-leaves s p f h = ap (statesAfter s) h
 
 abbrev pub AllFail : List (List ℕ) → Type 0
 AllFail [] = Unit {0}
@@ -43,10 +44,10 @@ pub faults-counted : (s : States) (p : List ℕ) → faultBits (getD (answerTo s
 unfolding answerTo judged
 faults-counted s p = judgements.faults-told s (arrived p)
 
--- The response to a failed packet: the two status bytes only.
+-- The response to a failed packet: the two status bytes only, as a read response for CMD1 04 and a write response otherwise.
 pub failed-answer : (s : States) (p : List ℕ) (f : Faults) → judged p ≡ Failed f → answerTo s p ≡ packetOf (responseType (cmd1Of p)) (data0 f ∷ data1 f ∷ [])
-unfolding answerTo judged
-failed-answer s p f h = judgements.failed-answer s (arrived p) f h
+unfolding answerTo response
+failed-answer s p f h = rw h
 
 -- A read of 0015 answers the park state.
 pub read-park : (s : States) (q : List ℕ) → judged q ≡ Done GetDmdSoftwareParkState → answerTo s q ≡ packetOf readResp (0x00 ∷ 0x00 ∷ s .park ∷ [])
@@ -73,18 +74,20 @@ unfolding after next
 parks-kept s [] h = refl
 parks-kept s (p ∷ ps) h = parks-kept (next s p) ps (h .1) ∙ park-kept s (judged p) (h .0)
 
--- After a park, whatever comes between that is no park or unpark, a read answers 1;
-pub read-after-park : (s : States) (p q : List ℕ) (ps : List (List ℕ)) → judged p ≡ Done ParkDmd → AllNeither ps → judged q ≡ Done GetDmdSoftwareParkState
-    → answerTo (after (next s p) ps) q ≡ packetOf readResp (0x00 ∷ 0x00 ∷ 0x01 ∷ [])
+-- A read after a command that was carried out, whatever comes between that is no park or unpark,
+read-after : (c : Command) (s : States) (p q : List ℕ) (ps : List (List ℕ)) → judged p ≡ Done c → AllNeither ps → judged q ≡ Done GetDmdSoftwareParkState
+    → answerTo (after (next s p) ps) q ≡ packetOf readResp (0x00 ∷ 0x00 ∷ parkAfter c (s .park) ∷ [])
 unfolding next
-read-after-park s p q ps h k r =
+read-after c s p q ps h k r =
     read-park (after (next s p) ps) q r
     ∙ ap (λ (v : ℕ). packetOf readResp (0x00 ∷ 0x00 ∷ v ∷ [])) (parks-kept (next s p) ps k ∙ ap (λ (j : Judgement). statesAfter s j .park) h)
 
--- and after an unpark 0.
+-- answers 1 after a park
+pub read-after-park : (s : States) (p q : List ℕ) (ps : List (List ℕ)) → judged p ≡ Done ParkDmd → AllNeither ps → judged q ≡ Done GetDmdSoftwareParkState
+    → answerTo (after (next s p) ps) q ≡ packetOf readResp (0x00 ∷ 0x00 ∷ 0x01 ∷ [])
+read-after-park = read-after ParkDmd
+
+-- and 0 after an unpark.
 pub read-after-unpark : (s : States) (p q : List ℕ) (ps : List (List ℕ)) → judged p ≡ Done UnparkDmd → AllNeither ps → judged q ≡ Done GetDmdSoftwareParkState
     → answerTo (after (next s p) ps) q ≡ packetOf readResp (0x00 ∷ 0x00 ∷ 0x00 ∷ [])
-unfolding next
-read-after-unpark s p q ps h k r =
-    read-park (after (next s p) ps) q r
-    ∙ ap (λ (v : ℕ). packetOf readResp (0x00 ∷ 0x00 ∷ v ∷ [])) (parks-kept (next s p) ps k ∙ ap (λ (j : Judgement). statesAfter s j .park) h)
+read-after-unpark = read-after UnparkDmd

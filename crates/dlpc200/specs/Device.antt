@@ -1,4 +1,4 @@
--- The receive call: when it refuses, and what it answers and leaves.
+-- The device: the states and the receiver, and when it is in rule.
 use Prim.Native.Nat.{ℕ, _+_}
 use mathlib.Core.Bool.{Bool, _&&_}
 use mathlib.Core.List.{List}
@@ -13,9 +13,9 @@ use Rattle.dlpc200.specs.declared.device.Device.{Device}
 abbrev pub deviceWith : States → Device
 deviceWith s = record { states = s; receiver = fresh }
 
--- Refusal 3: a state out of range, or a half-received packet that has all its bytes.
-unfoldable pub packetInRule : List ℕ → ℕ → Bool
+-- Refusal 3: "a state out of range or a half-received packet that has all its bytes".
+abbrev pub packetInRule : List ℕ → ℕ → Bool
 packetInRule header received = ltb received (7 + payloadLength header)
 
-unfoldable pub inRule : Device → Bool
+abbrev pub inRule : Device → Bool
 inRule d = inRange (d .states) && packetInRule (d .receiver .header) (d .receiver .received)

@@ -1,12 +1,11 @@
 -- The receive call: when it refuses, and what it answers and leaves.
 use Prim.Native.Nat.{ℕ}
-use mathlib.Core.Bool.{Bool, true, cond}
+use mathlib.Core.Bool.{cond}
 use mathlib.Core.List.{List}
 use lib.Dec.{ltb}
 use lib.ListN.{length}
 use Rattle.packet.specs.Writer.{written}
 use Rattle.dlpc200.specs.Receiver.{receiving}
-use Rattle.dlpc200.specs.declared.receiver.Receiver.{Receiver}
 use Rattle.dlpc200.specs.declared.receiver.Received.{Received}
 use Rattle.dlpc200.specs.Judgement.{Arrived, arrivedBy, judge, statesAfter}
 use Rattle.dlpc200.specs.Response.{response}
@@ -39,10 +38,6 @@ judgedIn t = judge (arrivedIn t)
 unfoldable pub responseIn : States → Received → List ℕ
 responseIn s t = response s (arrivedIn t) (judgedIn t)
 
--- what the receiver answers when a packet is complete
-abbrev pub completeBy : ℕ → Bool → Receiver → Received
-completeBy n right r = record { taken = n; complete = true; right = right; receiver = r }
-
 -- The receive call: the answer, the device afterwards, and the output.
 pub record After : Type 0 where
   pub answer : Outcome
@@ -70,7 +65,7 @@ answered s t out =
 abbrev pub ended : States → Received → List ℕ → After
 ended s t out = cond (t .complete) (answered s t out) (waiting s t out)
 
--- tested in the order 1, 3
+-- "calls keep 1, then 3": an output shorter than 64 bytes, then a device out of rule
 unfoldable pub receiveCall : Device → List ℕ → List ℕ → After
 receiveCall d input out =
     cond (ltb (length out) 64) (refused 1 d out) (cond (inRule d) (ended (d .states) (receiving (d .receiver) input) out) (refused 3 d out))

@@ -1,4 +1,4 @@
--- The worked packets of the source document's sections, each fault alone and some together, and the sizes at their limits.
+-- Examples: the worked packets of the source document's sections, each fault alone and some together, and the sizes at their limits.
 use Prim.Native.Nat.{ℕ, _+_, _%_}
 use mathlib.Core.Bool.{Bool, true, false, _&&_}
 use mathlib.Core.List.{List, [], _∷_, _++_}

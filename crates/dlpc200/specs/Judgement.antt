@@ -1,6 +1,6 @@
--- How a complete packet is judged, what a judgement changes, and the response that it draws.
+-- How a complete packet is judged, and what a judgement changes.
 use Prim.Native.Nat.{ℕ}
-use mathlib.Core.Bool.{Bool, cond, not, _||_}
+use mathlib.Core.Bool.{Bool, cond, not, _&&_, _||_}
 use mathlib.Core.List.{List}
 use lib.Dec.{eqb, ltb}
 use Rattle.packet.specs.Packet.{payloadLength, payload}
@@ -48,14 +48,14 @@ arrivedBy h d right = arrivedOf (commandIn (payloadLength h) d) h right
 abbrev pub arrived : List ℕ → Arrived
 arrived p = arrivedBy p (payload p) (rightSum p)
 
--- The faults; every one that holds is set.
+-- The faults of the request; every one that holds is set.
 
--- CMD1 is neither 02 nor 04, or is the wrong one for its command
+-- "a CMD1 that is neither 02 nor 04 or is the wrong one for its command"
 unfoldable pub wrongCmd1 : Found → ℕ → Bool
-wrongCmd1 Unknown cmd1 = not (eqb cmd1 write || eqb cmd1 read)
-wrongCmd1 (Known c) cmd1 = not (eqb cmd1 write || eqb cmd1 read) || not (eqb cmd1 (cmd1For c))
+wrongCmd1 Unknown cmd1 = not (eqb cmd1 write) && not (eqb cmd1 read)
+wrongCmd1 (Known c) cmd1 = not (eqb cmd1 write) && not (eqb cmd1 read) || not (eqb cmd1 (cmd1For c))
 
--- the data are under two or over 504 bytes, or not of the command's size
+-- "data of the wrong size, under two or over 504 bytes", or not the command's
 unfoldable pub wrongSize : Found → ℕ → Bool
 wrongSize Unknown n = ltb n 2 || ltb 504 n
 wrongSize (Known c) n = ltb n 2 || ltb 504 n || not (eqb n (sizeFor c))
@@ -70,19 +70,16 @@ faultsOf p =
       size = wrongSize (p .command) (p .size);
     }
 
--- with no fault: an unknown command by itself fails, and sets bit 6 alone
+-- with no fault: "an unknown command by itself sets bit 6 alone"
 abbrev pub judgeCommand : Found → Judgement
 judgeCommand Unknown = Failed noFaults
 judgeCommand (Known c) = Done c
 
 -- a packet fails if a fault holds, or its command is unknown
-unfoldable pub judgedBy : Faults → Found → Judgement
-judgedBy f c = cond (anyFault f) (Failed f) (judgeCommand c)
-
 unfoldable pub judge : Arrived → Judgement
-judge p = judgedBy (faultsOf p) (p .command)
+judge p = cond (anyFault (faultsOf p)) (Failed (faultsOf p)) (judgeCommand (p .command))
 
--- What a judgement changes: park sets what 0015 reads and unpark clears it; a failed packet changes nothing.
+-- What a judgement changes: a command the park state, and a failed packet nothing.
 
 abbrev pub withPark : States → ℕ → States
 withPark s v = record { park = v; sequence = s .sequence; eeprom = s .eeprom; flash = s .flash; lit = s .lit }

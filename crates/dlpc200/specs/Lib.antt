@@ -1,4 +1,4 @@
--- What the contracts of dlpc200 cite.
+-- What the contracts of dlpc200 cite, in reading order: request 1 and the sections of source document 000 that it names.
 pub mod Packet
 pub mod Table
 pub mod States

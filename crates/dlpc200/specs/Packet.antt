@@ -1,6 +1,5 @@
--- The extended packet: CMD1, CMD2, CMD3, CMD4, Len_LSB, Len_MSB, 0-504 data bytes, checksum.
--- The length field stands in bytes 4 and 5 and one byte follows the data, as in the packet layer, so the packets of a stream are `packets` there
--- and their data `payload`. Another field follows CMD1, and the checksum is another sum.
+-- The extended packet of section 6: CMD1, CMD2, CMD3, CMD4, Len_LSB, Len_MSB, 0-504 data bytes, checksum.
+-- Bytes 4 and 5 are the length and one byte follows the data, as in the packet layer, so the packets of a stream are `packets` there and their data `payload`. The header's other bytes mean something else, and the checksum is another sum.
 use Prim.Native.Nat.{ℕ, _+_, _*_, _%_}
 use mathlib.Core.Bool.{Bool}
 use mathlib.Core.List.{List, [], _∷_, _++_}
@@ -9,7 +8,7 @@ use lib.ListN.{length, getD, take, drop}
 use Rattle.packet.specs.Number.{bytesOf}
 use Rattle.packet.specs.Packet.{payloadLength, sum}
 
--- The fields of a packet, by their places. (CMD3 is reserved or unused.)
+-- The fields of a packet, by their places. ("CMD3 is reserved or unused"; the request: "not judged".)
 
 abbrev pub cmd1Of : List ℕ → ℕ
 cmd1Of p = getD p 0 0
@@ -20,11 +19,11 @@ cmd2Of p = getD p 1 0
 abbrev pub cmd4Of : List ℕ → ℕ
 cmd4Of p = getD p 3 0
 
--- Data[0] and Data[1]: the extended packet ID, a 16-bit value
+-- the extended packet ID, in Data[0] and Data[1]
 abbrev pub idOf : List ℕ → ℕ
 idOf d = getD d 0 0 + 256 * getD d 1 0
 
--- Definition of CMD1: WRITE, WRITE_RESP, READ, READ_RESP.
+-- "Definition of CMD1": WRITE, WRITE_RESP, READ, READ_RESP.
 
 abbrev pub write : ℕ
 write = 0x02
@@ -38,19 +37,19 @@ read = 0x04
 abbrev pub readResp : ℕ
 readResp = 0x05
 
--- Definition of CMD2: the packet is of Extended Packet type.
+-- "Definition of CMD2": the packet is of Extended Packet type.
 abbrev pub extended : ℕ
 extended = 0xAA
 
--- Definition of CMD4: the only packet of a transfer.
+-- "Definition of CMD4": the only transfer of a command.
 abbrev pub only : ℕ
 only = 0x00
 
--- The checksum of a packet's bytes before it: the sum of everything after CMD4.
+-- "Checksum (of everything after CMD4)", the bytes before it being b
 unfoldable pub checksum : List ℕ → ℕ
 checksum b = sum (drop 4 b) % 256
 
--- the checksum of p is right
+-- the checksum of the packet p is right
 unfoldable pub rightSum : List ℕ → Bool
 rightSum p = eqb (getD p (6 + payloadLength p) 0) (checksum (take (6 + payloadLength p) p))
 

@@ -32,7 +32,7 @@ with r b =
       received = packetWith (framedBy r) 0 b .received;
     }
 
--- what was taken of b, t being what the packet layer's receiver took: with a complete packet the last byte taken is its checksum, and the sum begins anew
+-- what was taken of b, t being what the packet layer's receiver took: the last byte of a complete packet is its checksum, and with it the sum begins anew
 unfoldable pub taking : Receiver → List ℕ → PacketReceived → Received
 taking r b t =
     record {

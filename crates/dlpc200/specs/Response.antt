@@ -1,4 +1,4 @@
--- How a complete packet is judged, what a judgement changes, and the response that it draws.
+-- The response that a packet draws.
 use Prim.Native.Nat.{ℕ}
 use mathlib.Core.Bool.{cond}
 use mathlib.Core.List.{List, [], _∷_}
@@ -11,15 +11,15 @@ use Rattle.dlpc200.specs.declared.judgement.Judgement.the-variants.{Fail
 use Rattle.dlpc200.specs.declared.states.States.{States}
 use Rattle.dlpc200.specs.Judgement.{Arrived}
 
--- The response: a read response for CMD1 04 and a write response otherwise, with AA, 00, 00 as CMD2 to CMD4 (`packetOf`).
-
+-- "a read response for CMD1 04 and a write response otherwise"
 abbrev pub responseType : ℕ → ℕ
 responseType cmd1 = cond (eqb cmd1 read) readResp writeResp
 
--- the two status bytes, and behind them the state that was read; a failed packet has the status bytes only
+-- the two status bytes, and after them the state that was read; of a failed packet "the two status bytes only"
 abbrev pub responseData : States → Judgement → List ℕ
 responseData s (Failed f) = data0 f ∷ data1 f ∷ []
 responseData s (Done c) = 0x00 ∷ 0x00 ∷ dataOf (shownOf s c)
 
+-- with AA, 00, 00 as CMD2 to CMD4 (`packetOf`), whatever came
 unfoldable pub response : States → Arrived → Judgement → List ℕ
 response s p j = packetOf (responseType (p .cmd1)) (responseData s j)

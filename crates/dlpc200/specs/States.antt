@@ -1,4 +1,4 @@
--- The seven commands: their IDs, the CMD1 and the data size of their packets, and the states that they read.
+-- The states that the commands read: "the other states are bytes the host supplies, in their sections' ranges".
 use Prim.Native.Nat.{ℕ}
 use mathlib.Core.Bool.{Bool, _&&_}
 use mathlib.Core.List.{List, [], _∷_}
@@ -9,7 +9,7 @@ use Rattle.dlpc200.specs.declared.states.States.{States}
 use Rattle.dlpc200.specs.declared.states.Shown.{Shown}
 use Rattle.dlpc200.specs.declared.states.Shown.the-variants.{State, Nothing}
 
--- what a command answers behind the status bytes: a Get command its state
+-- what a command answers after the status bytes: a Get command its state, as Data[2] of its section's response
 abbrev pub shownOf : States → Command → Shown
 shownOf s ParkDmd = Nothing
 shownOf s UnparkDmd = Nothing
@@ -24,7 +24,7 @@ abbrev pub dataOf : Shown → List ℕ
 dataOf Nothing = []
 dataOf (State v) = v ∷ []
 
--- the park state after a command that was carried out
+-- "park sets what 0015 reads and unpark clears it": the park state after a command that was carried out
 abbrev pub parkAfter : Command → ℕ → ℕ
 parkAfter ParkDmd v = 1
 parkAfter UnparkDmd v = 0
@@ -34,6 +34,6 @@ parkAfter GetEepromFault v = v
 parkAfter GetInitFromParallelFlashFail v = v
 parkAfter GetOverallLedLampLitState v = v
 
--- each state is in its section's range: 0 or 1, and that of 0029 from 0 to 7
-unfoldable pub inRange : States → Bool
+-- each state is in its section's range: 0 or 1 (6.22, 6.23, 6.24, 6.43), and that of 0029 from 0 to 7 (6.42)
+abbrev pub inRange : States → Bool
 inRange s = leb (s .park) 1 && leb (s .sequence) 1 && leb (s .eeprom) 1 && leb (s .flash) 7 && leb (s .lit) 1

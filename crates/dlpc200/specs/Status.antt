@@ -1,11 +1,12 @@
--- The faults of a packet, and the two status bytes of its response. (The other bits are not applicable and 0.)
+-- The faults of a packet, and the two status bytes of its response, by the table of section 6. (Its other bits are "not applicable and will be set to '0'".)
 use Prim.Native.Nat.{ℕ, _+_}
 use mathlib.Core.Bool.{Bool, false, cond, _||_}
 use lib.Bits.{bitAnd}
 use lib.Count.{ones}
 use Rattle.dlpc200.specs.declared.status.Faults.{Faults}
 
-unfoldable pub anyFault : Faults → Bool
+-- one of them holds, or several
+abbrev pub anyFault : Faults → Bool
 anyFault f = f .checksum || f .cmd1 || f .cmd2 || f .cmd4 || f .size
 
 abbrev pub noFaults : Faults
@@ -15,15 +16,15 @@ noFaults = record { checksum = false; cmd1 = false; cmd2 = false; cmd4 = false; 
 abbrev pub bit : Bool → ℕ → ℕ
 bit holds value = cond holds value 0
 
--- Data[0] of a failed packet: bit 0 checksum error, bit 1 invalid CMD1, bit 2 invalid CMD2, bit 4 invalid CMD4, and bit 6, processing failed
-unfoldable pub data0 : Faults → ℕ
+-- Data[0] of a failed packet: bit 0 checksum error, bit 1 invalid CMD1, bit 2 invalid CMD2, bit 4 invalid CMD4, and bit 6, "Extended Packet processing failed"
+abbrev pub data0 : Faults → ℕ
 data0 f = bit (f .checksum) 0x01 + bit (f .cmd1) 0x02 + bit (f .cmd2) 0x04 + bit (f .cmd4) 0x10 + 0x40
 
--- Data[1]: bit 3, insufficient or excess data
-unfoldable pub data1 : Faults → ℕ
+-- Data[1]: bit 3, "insufficient or excess data"
+abbrev pub data1 : Faults → ℕ
 data1 f = bit (f .size) 0x08
 
--- how many error bits are set in the two bytes beside bit 6 of Data[0]: the ones of 1011 1111 in the first, and of the second
+-- "how many faults a response carries beside bit 6: the number of error bits set", in all bits of the two bytes but bit 6 of Data[0]
 unfoldable pub faultBits : ℕ → ℕ → ℕ
 faultBits d0 d1 = ones (bitAnd d0 0xBF) + ones d1
 

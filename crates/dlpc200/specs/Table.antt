@@ -1,4 +1,4 @@
--- The seven commands: their IDs, the CMD1 and the data size of their packets, and the states that they read.
+-- The seven commands that the request starts with: their IDs, and the CMD1 and the data size of their packets.
 use Prim.Native.Nat.{ℕ}
 use mathlib.Core.Bool.{cond}
 use mathlib.Core.List.{List, [], _∷_}
@@ -14,7 +14,7 @@ abbrev pub table : List Command
 table =
     ParkDmd ∷ UnparkDmd ∷ GetDmdSoftwareParkState ∷ GetSeqRunState ∷ GetEepromFault ∷ GetInitFromParallelFlashFail ∷ GetOverallLedLampLitState ∷ []
 
--- the extended packet ID
+-- the extended packet ID, as the section's title has it
 abbrev pub idFor : Command → ℕ
 idFor ParkDmd = 0x0005
 idFor UnparkDmd = 0x0006
@@ -24,7 +24,7 @@ idFor GetEepromFault = 0x0017
 idFor GetInitFromParallelFlashFail = 0x0029
 idFor GetOverallLedLampLitState = 0x002A
 
--- WRITE for the commands that set, READ for those that get
+-- section 6: WRITE "for set/enable/configure type functionality", READ "for status/query type functionality"
 abbrev pub cmd1For : Command → ℕ
 cmd1For ParkDmd = write
 cmd1For UnparkDmd = write
@@ -34,7 +34,7 @@ cmd1For GetEepromFault = read
 cmd1For GetInitFromParallelFlashFail = read
 cmd1For GetOverallLedLampLitState = read
 
--- the data of each: its ID alone
+-- how many data bytes each section has: the two of the ID
 abbrev pub sizeFor : Command → ℕ
 sizeFor c = 2
 

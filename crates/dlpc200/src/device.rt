@@ -3,19 +3,12 @@
 use crate::receiver::Receiver;
 use crate::states::States;
 ghost use mathlib.Core.Path.{_≡_};
-ghost use Rattle.dlpc200.specs.Device.{deviceWith, inRule, packetInRule};
+ghost use Rattle.dlpc200.specs.Device.{deviceWith, inRule};
 
 #[repr(C)]
 pub struct Device {
     pub states: States,
     pub receiver: Receiver,
-}
-
-// The current packet has not all its bytes.
-fn packet_in_rule(header: [u8; 6], received: usize) -> bool
-    ensures { λ r. ⌜ r ≡ packetInRule header received ⌝ }
-{
-    received < 7 + packet::word(header[4], header[5])
 }
 
 impl Device {
@@ -35,9 +28,6 @@ impl Device {
     {
         let states = self.states;
         let receiver = self.receiver;
-        let header = receiver.header;
-        let a = states.in_range();
-        let b = packet_in_rule(header, receiver.received);
-        a & b
+        states.in_range() & receiver.unfinished()
     }
 }

@@ -1,12 +1,14 @@
 // The receive call: host bytes in, a response out, the device handed back.
 use crate::device::Device;
-use crate::receiver::Receiver;
+use crate::judgement::judge;
+use crate::judgement::states_after;
+use crate::receiver::Received;
 use crate::response::respond;
 use crate::states::States;
 ghost use mathlib.Core.Path.{_≡_};
 ghost use Prim.Native.Nat.{_≤_};
 ghost use lib.ListN.{length};
-ghost use Rattle.dlpc200.specs.Endpoint.{answered, completeBy, outcomeOf, receiveCall};
+ghost use Rattle.dlpc200.specs.Endpoint.{answered, outcomeOf, receiveCall};
 
 // What a call answers.
 pub enum Answer {
@@ -31,23 +33,25 @@ pub struct Step {
     pub answer: Answer,
 }
 
-// A complete packet, which r has received: it is judged and answered.
-fn complete(s: States, r: Receiver, right: bool, taken: usize, out: &mut [u8]) -> Step
+// A packet that is complete, as the receiver took it: it is judged and answered.
+fn complete(s: States, t: Received, out: &mut [u8]) -> Step
     requires { ⌜ 64 ≤ length (now out) ⌝ }
-    ensures { λ t. ⌜ (outcomeOf (t .answer) ≡ answered s (completeBy taken right r) (now (out .entry)) .answer)
-        × (t .device ≡ answered s (completeBy taken right r) (now (out .entry)) .device)
-        × (now (out .exit) ≡ answered s (completeBy taken right r) (now (out .entry)) .output) ⌝ }
+    ensures { λ r. ⌜ (outcomeOf (r .answer) ≡ answered s t (now (out .entry)) .answer)
+        × (r .device ≡ answered s t (now (out .entry)) .device)
+        × (now (out .exit) ≡ answered s t (now (out .entry)) .output) ⌝ }
 {
-    let header = r.header;
-    let id = r.id;
-    let j = crate::judgement::judge(header, id, right);
+    let receiver = t.receiver;
+    let header = receiver.header;
+    let id = receiver.id;
+    let j = judge(header, id, t.right);
     let length = respond(out, header[0], s, j);
+    let states = states_after(s, j);
     Step {
-        device: Device {
-            states: crate::judgement::states_after(s, j),
-            receiver: r,
+        device: Device { states, receiver },
+        answer: Answer::Answered {
+            taken: t.taken,
+            length,
         },
-        answer: Answer::Answered { taken, length },
     }
 }
 
@@ -57,14 +61,13 @@ pub fn receive(d: Device, input: &[u8], out: &mut [u8]) -> Step
         × (r .device ≡ receiveCall d (now (input .entry)) (now (out .entry)) .device)
         × (now (out .exit) ≡ receiveCall d (now (input .entry)) (now (out .entry)) .output) ⌝ }
 {
-    let ruled = d.in_rule();
     if out.len() < 64 {
         return Step {
             device: d,
             answer: Answer::ShortOutput,
         };
     }
-    if !ruled {
+    if !d.in_rule() {
         return Step {
             device: d,
             answer: Answer::OutOfRule,
@@ -73,15 +76,15 @@ pub fn receive(d: Device, input: &[u8], out: &mut [u8]) -> Step
     let states = d.states;
     let receiver = d.receiver;
     let t = receiver.receive(input);
-    let received = t.receiver;
-    if !t.complete {
-        return Step {
-            device: Device {
-                states: states,
-                receiver: received,
-            },
-            answer: Answer::Waiting(t.taken),
-        };
+    if t.complete {
+        return complete(states, t, out);
     }
-    complete(states, received, t.right, t.taken, out)
+    let received = t.receiver;
+    Step {
+        device: Device {
+            states,
+            receiver: received,
+        },
+        answer: Answer::Waiting(t.taken),
+    }
 }

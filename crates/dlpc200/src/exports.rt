@@ -1,4 +1,4 @@
-// exports.
+// The calls for C and Rust. An enum does not cross, so an answer is told as numbers.
 use crate::device::Device;
 use crate::endpoint::Answer;
 use crate::states::States;
@@ -18,13 +18,14 @@ pub struct Reply {
     pub length: usize,
 }
 
-// The device afterwards, and the answer.
+// An answer, and the device afterwards.
 #[repr(C)]
 pub struct Stepped {
     pub device: Device,
     pub reply: Reply,
 }
 
+// An answer as numbers.
 fn as_reply(a: Answer) -> Reply
     ensures { λ r. ⌜ r ≡ replyOf (outcomeOf a) ⌝ }
 {
@@ -87,9 +88,9 @@ pub extern "C" fn dlpc200_receive(device: &mut Device, input: &[u8], out: &mut [
         × (r ≡ replyOf (receiveCall (now (device .entry)) (now (input .entry)) (now (out .entry)) .answer))
         × (now (out .exit) ≡ receiveCall (now (device .entry)) (now (input .entry)) (now (out .entry)) .output) ⌝ }
 {
-    let s = dlpc200_step(*device, input, out);
+    let s = crate::endpoint::receive(*device, input, out);
     *device = s.device;
-    s.reply
+    as_reply(s.answer)
 }
 
 // How many faults a response carries beside bit 6, by its Data[0] and Data[1].

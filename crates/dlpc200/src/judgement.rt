@@ -1,10 +1,20 @@
-// How a complete packet is judged: every fault that holds.
+// How a complete packet is judged, and what a judgement changes.
+use crate::header::EXTENDED;
+use crate::header::ONLY;
+use crate::header::READ;
+use crate::header::WRITE;
 use crate::states::States;
 use crate::status::Faults;
 use crate::table::Command;
 use crate::table::Found;
 ghost use mathlib.Core.Path.{_≡_};
-ghost use Rattle.dlpc200.specs.Judgement.{arrivedBy, arrivedOf, commandIn, faultsOf, judge as judgeOf, judgedBy, statesAfter, wrongCmd1, wrongSize};
+ghost use Rattle.packet.specs.Packet.{payloadLength};
+ghost use Rattle.dlpc200.specs.Judgement.{arrivedBy, arrivedOf, commandIn, faultsOf, judge as judgeOf, statesAfter, wrongCmd1, wrongSize};
+
+// A packet of a command has its ID as data, and nothing else.
+const ID_SIZE: usize = 2;
+
+const DATA_LIMIT: usize = 504;
 
 pub(crate) enum Judgement {
     // The packet failed, with these faults; with none of them its command is unknown.
@@ -13,11 +23,11 @@ pub(crate) enum Judgement {
     Done(Command),
 }
 
-// The command of a packet with so many data bytes, of which these are the first.
-fn command_in(size: usize, id: [u8; 2]) -> Found
-    ensures { λ r. ⌜ r ≡ commandIn size id ⌝ }
+// The command of a packet with this header, these being its first two data bytes.
+fn command_in(header: [u8; 6], id: [u8; 2]) -> Found
+    ensures { λ r. ⌜ r ≡ commandIn (payloadLength header) id ⌝ }
 {
-    if size < 2 {
+    if packet::word(header[4], header[5]) < ID_SIZE {
         return Found::Unknown;
     }
     Command::find(packet::word(id[0], id[1]))
@@ -27,22 +37,22 @@ fn command_in(size: usize, id: [u8; 2]) -> Found
 fn wrong_cmd1(found: Found, cmd1: u8) -> bool
     ensures { λ r. ⌜ r ≡ wrongCmd1 found cmd1 ⌝ }
 {
-    let other = !((cmd1 == crate::header::WRITE) | (cmd1 == crate::header::READ));
+    let neither = (cmd1 != WRITE) & (cmd1 != READ);
     let Found::Known(c) = found else {
-        return other;
+        return neither;
     };
-    other | !(cmd1 == c.cmd1())
+    neither | (cmd1 != c.cmd1())
 }
 
 // The data are of the wrong size: under two or over 504 bytes, or not the command's size.
 fn wrong_size(found: Found, size: usize) -> bool
     ensures { λ r. ⌜ r ≡ wrongSize found size ⌝ }
 {
-    let other = (size < 2) | (504 < size);
+    let outside = (size < ID_SIZE) | (DATA_LIMIT < size);
     let Found::Known(_) = found else {
-        return other;
+        return outside;
     };
-    other | !(size == 2)
+    outside | (size != ID_SIZE)
 }
 
 // Every fault that holds of a packet of this command.
@@ -52,22 +62,9 @@ fn faults_in(found: Found, header: [u8; 6], right: bool) -> Faults
     Faults {
         checksum: !right,
         cmd1: wrong_cmd1(found, header[0]),
-        cmd2: !(header[1] == crate::header::EXTENDED),
-        cmd4: !(header[3] == crate::header::ONLY),
+        cmd2: header[1] != EXTENDED,
+        cmd4: header[3] != ONLY,
         size: wrong_size(found, packet::word(header[4], header[5])),
-    }
-}
-
-// A packet of this command with these faults.
-fn judged(faults: Faults, found: Found) -> Judgement
-    ensures { λ r. ⌜ r ≡ judgedBy faults found ⌝ }
-{
-    if faults.any() {
-        return Judgement::Failed(faults);
-    }
-    match found {
-        Found::Known(c) => Judgement::Done(c),
-        Found::Unknown => Judgement::Failed(Faults::none()),
     }
 }
 
@@ -75,8 +72,15 @@ fn judged(faults: Faults, found: Found) -> Judgement
 pub(crate) fn judge(header: [u8; 6], id: [u8; 2], right: bool) -> Judgement
     ensures { λ r. ⌜ r ≡ judgeOf (arrivedBy header id right) ⌝ }
 {
-    let found = command_in(packet::word(header[4], header[5]), id);
-    judged(faults_in(found, header, right), found)
+    let found = command_in(header, id);
+    let faults = faults_in(found, header, right);
+    if faults.any() {
+        return Judgement::Failed(faults);
+    }
+    match found {
+        Found::Known(c) => Judgement::Done(c),
+        Found::Unknown => Judgement::Failed(Faults::NONE),
+    }
 }
 
 // The states after a packet that was judged so.

@@ -1,4 +1,16 @@
-// The crate dlpc200.
+// The DLPC200 on its SPI port (request 1): the extended packets of section 6 of source document
+// 000, for the commands 0005, 0006, 0015, 0016, 0017, 0029 and 002A.
+//
+//   header     the values of CMD1, CMD2 and CMD4
+//   table      the commands, their IDs and their CMD1
+//   states     the states that the commands read
+//   status     the faults of a packet, and the two status bytes of its response
+//   judgement  how a complete packet is judged, and what that changes
+//   response   writing the response
+//   receiver   taking packets from a stream
+//   device     the states and the receiver
+//   endpoint   the receive call
+//   exports    the calls for C and Rust
 mod device;
 mod endpoint;
 mod exports;

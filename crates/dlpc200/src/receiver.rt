@@ -1,6 +1,10 @@
 // The receiver: takes one packet from a stream of bytes, byte by byte as the stream arrives.
+ghost use mathlib.Core.Bool.{cond};
 ghost use mathlib.Core.Path.{_≡_};
-ghost use Rattle.dlpc200.specs.Receiver.{fresh as freshOf, receiving};
+ghost use Prim.Native.Nat.{_+_, _%_};
+ghost use lib.Dec.{ltb};
+ghost use Rattle.dlpc200.specs.Device.{packetInRule};
+ghost use Rattle.dlpc200.specs.Receiver.{receiving};
 
 // What has come in of the current packet. Of its data only the first two bytes are held: they are
 // the command's ID, and no command here has more. Between two packets `received` and `sum` are 0,
@@ -25,7 +29,18 @@ pub(crate) struct Received {
     pub receiver: Receiver,
 }
 
+// The sum with one byte more, so many having come in before it: CMD1 to CMD4 are not summed.
+fn summed(sum: u8, received: usize, b: u8) -> u8
+    ensures { λ r. ⌜ r ≡ cond (ltb received 4) sum ((sum + b) % 256) ⌝ }
+{
+    if received < 4 {
+        return sum;
+    }
+    std::num::wrapping_add_u8(sum, b)
+}
+
 impl Receiver {
+    // Between two packets.
     pub const FRESH: Receiver = Receiver {
         header: [0; 6],
         id: [0; 2],
@@ -33,16 +48,9 @@ impl Receiver {
         received: 0,
     };
 
-    // A receiver between two packets.
-    pub fn fresh() -> Receiver
-        ensures { λ r. ⌜ r ≡ freshOf ⌝ }
-    {
-        Receiver::FRESH
-    }
-
-    // Takes bytes until the input ends or one packet is complete. Data bytes behind the ID are
+    // Takes bytes until the input ends or one packet is complete. Data bytes after the ID are
     // counted, summed and dropped.
-    pub fn receive(mut self, input: &[u8]) -> Received
+    pub(crate) fn receive(mut self, input: &[u8]) -> Received
         ensures { λ t. ⌜ t ≡ receiving self (now (input .entry)) ⌝ }
     {
         let mut i = 0;
@@ -58,27 +66,30 @@ impl Receiver {
                 return Received {
                     taken: i,
                     complete: true,
-                    right: right,
+                    right,
                     receiver: self,
                 };
             }
             self.received = received + 1;
-            if received < 4 {
+            self.sum = summed(self.sum, received, b);
+            if received < 6 {
                 self.header[received] = b;
-            } else {
-                self.sum = std::num::wrapping_add_u8(self.sum, b);
-                if received < 6 {
-                    self.header[received] = b;
-                } else if received < 8 {
-                    self.id[received - 6] = b;
-                }
+            } else if received < 8 {
+                self.id[received - 6] = b;
             }
         }
         Received {
-            taken: i,
+            taken: input.len(),
             complete: false,
             right: false,
             receiver: self,
         }
+    }
+
+    // The current packet has not all its bytes.
+    pub(crate) fn unfinished(self) -> bool
+        ensures { λ r. ⌜ r ≡ packetInRule (self .header) (self .received) ⌝ }
+    {
+        self.received < 7 + packet::word(self.header[4], self.header[5])
     }
 }

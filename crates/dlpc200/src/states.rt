@@ -18,7 +18,7 @@ pub struct States {
     pub lit: u8,
 }
 
-// What a command answers behind the status bytes.
+// What a command answers after the status bytes.
 pub(crate) enum Shown {
     State(u8),
     Nothing,
@@ -26,7 +26,7 @@ pub(crate) enum Shown {
 
 impl States {
     // Each state is in its section's range.
-    pub fn in_range(self) -> bool
+    pub(crate) fn in_range(self) -> bool
         ensures { λ r. ⌜ r ≡ inRange self ⌝ }
     {
         (self.park <= 1)
@@ -37,7 +37,7 @@ impl States {
     }
 
     // The state that a command reads.
-    pub fn shown(self, c: Command) -> Shown
+    pub(crate) fn shown(self, c: Command) -> Shown
         ensures { λ r. ⌜ r ≡ shownOf self c ⌝ }
     {
         match c {

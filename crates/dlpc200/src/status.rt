@@ -1,8 +1,23 @@
-// The faults that a packet can have.
+// The faults that a packet can have, and the two status bytes that tell them.
 ghost use mathlib.Core.Path.{_≡_};
-ghost use Rattle.dlpc200.specs.Status.{anyFault, noFaults, bit, data0, data1, faultBits};
 ghost use Prim.Native.Nat.{_≤_};
+ghost use Rattle.dlpc200.specs.Status.{anyFault, bit, data0, data1, faultBits};
 
+// The error bits of Data[0].
+const CHECKSUM_ERROR: u8 = 0x01;
+
+const INVALID_CMD1: u8 = 0x02;
+
+const INVALID_CMD2: u8 = 0x04;
+
+const INVALID_CMD4: u8 = 0x10;
+
+const PROCESSING_FAILED: u8 = 0x40;
+
+// The error bit of Data[1].
+const WRONG_DATA_SIZE: u8 = 0x08;
+
+// Every fault that holds of a packet.
 pub(crate) struct Faults {
     pub checksum: bool,
     pub cmd1: bool,
@@ -12,6 +27,7 @@ pub(crate) struct Faults {
 }
 
 impl Faults {
+    // With none of them a packet failed because its command is unknown.
     pub const NONE: Faults = Faults {
         checksum: false,
         cmd1: false,
@@ -19,13 +35,6 @@ impl Faults {
         cmd4: false,
         size: false,
     };
-
-    // None of them.
-    pub fn none() -> Faults
-        ensures { λ r. ⌜ r ≡ noFaults ⌝ }
-    {
-        Faults::NONE
-    }
 
     // One of them holds, or several.
     pub fn any(self) -> bool
@@ -35,6 +44,7 @@ impl Faults {
     }
 }
 
+// An error bit, where its fault holds.
 fn flag(holds: bool, value: u8) -> u8
     ensures { λ r. ⌜ (r ≡ bit holds value) × (r ≤ value) ⌝ }
 {
@@ -45,23 +55,23 @@ fn flag(holds: bool, value: u8) -> u8
 pub(crate) fn status0(f: Faults) -> u8
     ensures { λ r. ⌜ r ≡ data0 f ⌝ }
 {
-    let a = flag(f.checksum, 0x01);
-    let b = flag(f.cmd1, 0x02);
-    let c = flag(f.cmd2, 0x04);
-    let d = flag(f.cmd4, 0x10);
-    a + b + c + d + 0x40
+    flag(f.checksum, CHECKSUM_ERROR)
+        + flag(f.cmd1, INVALID_CMD1)
+        + flag(f.cmd2, INVALID_CMD2)
+        + flag(f.cmd4, INVALID_CMD4)
+        + PROCESSING_FAILED
 }
 
 // Data[1] of a failed packet.
 pub(crate) fn status1(f: Faults) -> u8
     ensures { λ r. ⌜ r ≡ data1 f ⌝ }
 {
-    flag(f.size, 0x08)
+    flag(f.size, WRONG_DATA_SIZE)
 }
 
 // How many faults a response carries beside bit 6 of Data[0].
 pub fn fault_count(data0: u8, data1: u8) -> u32
     ensures { λ r. ⌜ r ≡ faultBits data0 data1 ⌝ }
 {
-    u8::count_ones(data0 & 0xBF) + u8::count_ones(data1)
+    u8::count_ones(data0 & !PROCESSING_FAILED) + u8::count_ones(data1)
 }

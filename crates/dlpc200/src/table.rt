@@ -1,4 +1,6 @@
-// The seven commands, by the source document's titles, and their IDs.
+// The seven commands, by the source document's titles, their IDs and their CMD1.
+use crate::header::READ;
+use crate::header::WRITE;
 ghost use mathlib.Core.Path.{_≡_};
 ghost use Rattle.dlpc200.specs.Table.{cmd1For, commandOf};
 ghost use Rattle.dlpc200.specs.States.{parkAfter};
@@ -23,28 +25,16 @@ impl Command {
     pub fn find(id: usize) -> Found
         ensures { λ r. ⌜ r ≡ commandOf id ⌝ }
     {
-        if id == 0x0005 {
-            return Found::Known(Command::ParkDmd);
+        match id {
+            0x0005 => Found::Known(Command::ParkDmd),
+            0x0006 => Found::Known(Command::UnparkDmd),
+            0x0015 => Found::Known(Command::GetDmdSoftwareParkState),
+            0x0016 => Found::Known(Command::GetSeqRunState),
+            0x0017 => Found::Known(Command::GetEepromFault),
+            0x0029 => Found::Known(Command::GetInitFromParallelFlashFail),
+            0x002A => Found::Known(Command::GetOverallLedLampLitState),
+            _ => Found::Unknown,
         }
-        if id == 0x0006 {
-            return Found::Known(Command::UnparkDmd);
-        }
-        if id == 0x0015 {
-            return Found::Known(Command::GetDmdSoftwareParkState);
-        }
-        if id == 0x0016 {
-            return Found::Known(Command::GetSeqRunState);
-        }
-        if id == 0x0017 {
-            return Found::Known(Command::GetEepromFault);
-        }
-        if id == 0x0029 {
-            return Found::Known(Command::GetInitFromParallelFlashFail);
-        }
-        if id == 0x002A {
-            return Found::Known(Command::GetOverallLedLampLitState);
-        }
-        Found::Unknown
     }
 
     // The CMD1 that a packet of this command has.
@@ -52,13 +42,13 @@ impl Command {
         ensures { λ r. ⌜ r ≡ cmd1For self ⌝ }
     {
         match self {
-            Command::ParkDmd => crate::header::WRITE,
-            Command::UnparkDmd => crate::header::WRITE,
-            Command::GetDmdSoftwareParkState => crate::header::READ,
-            Command::GetSeqRunState => crate::header::READ,
-            Command::GetEepromFault => crate::header::READ,
-            Command::GetInitFromParallelFlashFail => crate::header::READ,
-            Command::GetOverallLedLampLitState => crate::header::READ,
+            Command::ParkDmd => WRITE,
+            Command::UnparkDmd => WRITE,
+            Command::GetDmdSoftwareParkState => READ,
+            Command::GetSeqRunState => READ,
+            Command::GetEepromFault => READ,
+            Command::GetInitFromParallelFlashFail => READ,
+            Command::GetOverallLedLampLitState => READ,
         }
     }
 

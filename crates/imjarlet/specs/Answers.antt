@@ -28,7 +28,7 @@ abbrev pub emittedOf : encoding.Outcome → Emitted
 emittedOf (encoding.Refuses n) = record { refusal = n; length = 0 }
 emittedOf (encoding.Writes n) = record { refusal = 0; length = n }
 
--- The encoder by a command's bytes: what the settings have for it. A command that is not in the table is refused with 2, behind 1.
+-- The encoder by a command's bytes: what the settings have for it. A command that is not in the table is refused with 2, after 1.
 abbrev pub writeFor : Found → Settings → List ℕ → encoding.After
 writeFor Unknown s out = encoding.refused (cond (ltb (length out) 64) 1 2) out
 writeFor (Known c) s out = encoding.encodeCall (valueFrom c (valuesOf c s)) out

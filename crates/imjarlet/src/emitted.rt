@@ -42,7 +42,7 @@ fn emitted_of(e: Encoded) -> Emitted
     }
 }
 
-// The refusal of a command that is not in the table, tested behind the output's length.
+// The refusal of a command that is not in the table, tested after the output's length.
 fn unknown(n: usize) -> Encoded
     ensures { λ e. ⌜ outcomeOf e ≡ Refuses (cond (ltb n 64) 1 2) ⌝ }
 {

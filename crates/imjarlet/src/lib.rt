@@ -1,4 +1,9 @@
-// The crate imjarlet.
+// The boundary to C and Rust: the calls of the crates below with answers as numbers, since an enum
+// does not cross.
+//
+//   receipt  a head at power-up, and the receive call over a controller that the caller lends
+//   emitted  the encoder and the standard shipping list
+//   verdict  the answer to a tuning report
 mod emitted;
 mod receipt;
 mod verdict;

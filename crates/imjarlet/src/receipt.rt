@@ -1,4 +1,4 @@
-// The receive call over a controller that the caller lends.
+// A head at power-up, and the receive call over a controller that the caller lends.
 use command::Answer;
 use command::Controller;
 ghost use mathlib.Core.Path.{_≡_};
@@ -34,8 +34,8 @@ fn receipt_of(a: Answer) -> Receipt
         Answer::Answered { taken, length } => Receipt {
             refusal: 0,
             complete: 1,
-            taken: taken,
-            length: length,
+            taken,
+            length,
         },
         Answer::ShortOutput => Receipt {
             refusal: 1,

@@ -35,12 +35,12 @@ fn verdict_of(c: Checked) -> Verdict
                 place: 0,
                 trial: k,
                 score: c.score,
-                settings: settings,
+                settings,
             }
         }
         Outcome::Refused { number, place } => Verdict {
             refusal: number,
-            place: place,
+            place,
             trial: 0,
             score: 0,
             settings: Settings::factory(),

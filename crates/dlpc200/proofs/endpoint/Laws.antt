@@ -1,4 +1,4 @@
--- The receive call on a device in rule: it stays in rule, and cutting a stream changes nothing.
+-- The receive call: when it refuses; that a device in rule stays in rule; and that cutting a stream changes nothing.
 use Prim.Native.Nat.{ℕ, _+_, _-_, _<_, _≤_}
 use mathlib.Core.Path.{_≡_, refl, ap, sym, subst, _∙_}
 use mathlib.Core.Bool.{Bool, true, false, cond}
@@ -21,9 +21,19 @@ use Rattle.dlpc200.proofs.receiver.Laws.{Made, made-with, made-complete
 use Rattle.dlpc200.specs.States.{inRange}
 use Rattle.dlpc200.specs.declared.states.States.{States}
 use Rattle.dlpc200.proofs.judgement.Laws.{in-range-kept}
-use Rattle.dlpc200.specs.Endpoint.{Outcome, Refuses, Waits, Answers, judgedIn, responseIn, After, waiting, answered, ended, receiveCall}
+use Rattle.dlpc200.specs.Endpoint.{Outcome, Refuses, Waits, Answers, judgedIn, responseIn, After, refused, waiting, answered, ended, receiveCall}
 use Rattle.dlpc200.specs.Device.{packetInRule, inRule}
 use Rattle.dlpc200.specs.declared.device.Device.{Device}
+
+-- A refusal takes nothing, and leaves device and output: 1, whatever the device,
+pub short-output : (d : Device) (b out : List ℕ) → length out < 64 → receiveCall d b out ≡ refused 1 d out
+unfolding receiveCall
+short-output d b out h = rw (lt-ltb (length out) 64 h)
+
+-- then 3.
+pub out-of-rule : (d : Device) (b out : List ℕ) → 64 ≤ length out → inRule d ≡ false → receiveCall d b out ≡ refused 3 d out
+unfolding receiveCall
+out-of-rule d b out h r = rw (le-ltb (length out) 64 h, r)
 
 -- what a call shows of its answer: the bytes taken, and the response at the output's start
 abbrev pub takenOf : Outcome → ℕ

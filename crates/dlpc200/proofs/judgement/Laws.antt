@@ -1,8 +1,8 @@
 -- What a judgement says of its packet, and what it keeps.
 use Prim.Native.Nat.{ℕ, suc, _+_, _*_, _<_}
 use mathlib.Core.Path.{_≡_, refl, ap, sym, _∙_}
-use mathlib.Core.Bool.{Bool, true, false, cond, not, _&&_, _||_}
-use mathlib.Core.List.{List, [], _∷_}
+use mathlib.Core.Bool.{true, false, not, _&&_, _||_}
+use mathlib.Core.List.{List, _∷_}
 use native.Mathlib.Omega.{arith}
 use lib.Dec.{eqb, leb, ltb}
 use borrow.Author.Tests.{lt-ltb, le-ltb, eqb-true, not-false}
@@ -10,12 +10,12 @@ use lib.ListN.{getD}
 use lib.Count.{onesIn, ones}
 use Rattle.packet.specs.Number.{bytesOf}
 use Rattle.packet.specs.Packet.{payload}
-use Rattle.packet.proofs.Cases.{bool-cases, and-left, or-left, or-right}
+use Rattle.packet.proofs.Cases.{cond-cases, and-left, or-left, or-right}
 use Rattle.dlpc200.specs.Packet.{write, read, extended, only, checksum, rightSum, packetOf}
 use Rattle.dlpc200.specs.Table.{cmd1For, sizeFor}
 use Rattle.dlpc200.specs.States.{parkAfter, inRange}
 use Rattle.dlpc200.specs.Status.{anyFault, noFaults, data0, data1, faultBits, faultsHeld}
-use Rattle.dlpc200.specs.Judgement.{Arrived, arrived, wrongCmd1, wrongSize, faultsOf, judgeCommand, judgedBy, judge, withPark, statesAfter}
+use Rattle.dlpc200.specs.Judgement.{Arrived, arrived, wrongCmd1, wrongSize, faultsOf, judgeCommand, judge, withPark, statesAfter}
 use Rattle.dlpc200.specs.Response.{responseType, responseData, response}
 use Rattle.dlpc200.specs.declared.table.Command.{Command}
 use Rattle.dlpc200.specs.declared.table.Command.the-variants.{ParkDmd, UnparkDmd, GetDmdSoftwareParkState, GetSeqRunState, GetEepromFault, GetInitFromParallelFlashFail, GetOverallLedLampLitState}
@@ -76,17 +76,15 @@ known-done Unknown c h = let z : _≡_ {A = ℕ} 0 1 = cc in absurd (omega arith
 known-done (Known d) c h = cc
 
 done-faultless : (p : Arrived) (c : Command) → judge p ≡ Done c → (anyFault (faultsOf p) ≡ false) × (p .command ≡ Known c)
-unfolding judge judgedBy
-done-faultless p c h = go (anyFault (faultsOf p)) refl h
-  where
-    go : (b : Bool) → anyFault (faultsOf p) ≡ b → cond b (Failed (faultsOf p)) (judgeCommand (p .command)) ≡ Done c
-        → (anyFault (faultsOf p) ≡ false) × (p .command ≡ Known c)
-    go true e h = let z : _≡_ {A = ℕ} 0 1 = cc in absurd (omega arith)
-    go false e h = (e, known-done (p .command) c h)
+unfolding judge
+done-faultless p c =
+    cond-cases (λ j. j ≡ Done c → (anyFault (faultsOf p) ≡ false) × (p .command ≡ Known c)) (anyFault (faultsOf p))
+    (λ e h. let z : _≡_ {A = ℕ} 0 1 = cc in absurd (omega arith))
+    (λ e h. (e, known-done (p .command) c h))
 
 right-cmd1 : (c : Command) (n : ℕ) → wrongCmd1 (Known c) n ≡ false → n ≡ cmd1For c
 unfolding wrongCmd1
-right-cmd1 c n h = eqb-true n (cmd1For c) (not-false (eqb n (cmd1For c)) (or-right (not (eqb n write || eqb n read)) (not (eqb n (cmd1For c))) h))
+right-cmd1 c n h = eqb-true n (cmd1For c) (not-false (eqb n (cmd1For c)) (or-right (not (eqb n write) && not (eqb n read)) (not (eqb n (cmd1For c))) h))
 
 right-size : (c : Command) (n : ℕ) → wrongSize (Known c) n ≡ false → n ≡ sizeFor c
 unfolding wrongSize
@@ -111,38 +109,33 @@ unfolding wrongCmd1
 cmd1-fits = each (λ c. wrongCmd1 (Known c) (cmd1For c) ≡ false) (refl, refl, refl, refl, refl, refl, refl)
 
 pub carried-out : (p : Arrived) (c : Command) → CarriedOut p c → judge p ≡ Done c
-unfolding judge judgedBy anyFault faultsOf
+unfolding judge anyFault faultsOf
 carried-out p c h = rw (h .command, h .right, h .cmd1, h .cmd2, h .cmd4, h .size, cmd1-fits c) (unfold wrongSize in refl)
 
 -- and fails otherwise: with its faults if it has one, and with none of their bits if its command alone is unknown.
 
 pub fails : (p : Arrived) → anyFault (faultsOf p) ≡ true → judge p ≡ Failed (faultsOf p)
-unfolding judge judgedBy
+unfolding judge
 fails p h = rw h
 
 pub unknown-alone : (p : Arrived) → anyFault (faultsOf p) ≡ false → p .command ≡ Unknown → judge p ≡ Failed noFaults
-unfolding judge judgedBy
+unfolding judge
 unknown-alone p h k = rw (h, k)
 
 -- Under two or over 504 data bytes fail, whatever the command.
 
-under-two : (f : Found) (n : ℕ) → n < 2 → wrongSize f n ≡ true
+outside : (f : Found) (n : ℕ) → (ltb n 2 || ltb 504 n) ≡ true → wrongSize f n ≡ true
 unfolding wrongSize
-under-two Unknown n h = rw (lt-ltb n 2 h)
-under-two (Known c) n h = rw (lt-ltb n 2 h)
-
-over-504 : (f : Found) (n : ℕ) → 504 < n → wrongSize f n ≡ true
-unfolding wrongSize
-over-504 Unknown n h = rw (le-ltb n 2 (omega arith), lt-ltb 504 n h)
-over-504 (Known c) n h = rw (le-ltb n 2 (omega arith), lt-ltb 504 n h)
+outside Unknown n h = h
+outside (Known c) n h = rw h
 
 pub short-data : (p : Arrived) → p .size < 2 → faultsOf p .size ≡ true
 unfolding faultsOf
-short-data p h = under-two (p .command) (p .size) h
+short-data p h = outside (p .command) (p .size) (rw (lt-ltb (p .size) 2 h))
 
 pub long-data : (p : Arrived) → 504 < p .size → faultsOf p .size ≡ true
 unfolding faultsOf
-long-data p h = over-504 (p .command) (p .size) h
+long-data p h = outside (p .command) (p .size) (rw (le-ltb (p .size) 2 (omega arith), lt-ltb 504 (p .size) h))
 
 -- CMD3 is not judged: a packet with another is the same to the rules.
 
@@ -157,15 +150,6 @@ cmd3-not-judged a b c c′ q = rw (six (getD q 1 0 + 256 * getD q 2 0))
 pub bit-6-alone : (data0 noFaults ≡ 0x40) × (data1 noFaults ≡ 0)
 unfolding data0 data1
 bit-6-alone = (refl, refl)
-
--- The response to a failed packet: the two status bytes only, as a read response for CMD1 04 and a write response otherwise.
-pub failed-answer : (s : States) (p : Arrived) (f : Faults) → judge p ≡ Failed f → response s p (judge p) ≡ packetOf (responseType (p .cmd1)) (data0 f ∷ data1 f ∷ [])
-unfolding response
-failed-answer s p f h = rw h
-
--- A failed packet changes no state.
-pub failed-leaves : (s : States) (j : Judgement) (f : Faults) → j ≡ Failed f → statesAfter s j ≡ s
-failed-leaves s j f h = ap (statesAfter s) h
 
 -- In range stays in range.
 
@@ -182,10 +166,7 @@ park-range s h =
     and-left a b (and-left (a && b) c (and-left (a && b && c) d (and-left (a && b && c && d) (leb (s .lit) 1) h)))
 
 with-range : (s : States) (v : ℕ) → inRange s ≡ true → leb v 1 ≡ true → inRange (withPark s v) ≡ true
-with-range s v h k = go (k ∙ sym (park-range s h)) h
-  where
-    go : leb v 1 ≡ leb (s .park) 1 → inRange s ≡ true → inRange (withPark s v) ≡ true
-    go e h = unfold inRange in rw e h
+with-range s v h k = let e : leb v 1 ≡ leb (s .park) 1 = k ∙ sym (park-range s h) in rw e h
 
 pub in-range-kept : (s : States) (j : Judgement) → inRange s ≡ true → inRange (statesAfter s j) ≡ true
 in-range-kept s (Failed f) h = h
@@ -210,11 +191,8 @@ bits-command s n Unknown = faults-counted noFaults ∙ (unfold faultsHeld in ref
 bits-command s n (Known c) = unfold faultBits ones onesIn in refl
 
 pub faults-told : (s : States) (p : Arrived) → faultBits (getD (response s p (judge p)) 6 0) (getD (response s p (judge p)) 7 0) ≡ faultsHeld (faultsOf p)
-unfolding response judge judgedBy bits-of
+unfolding response judge bits-of
 faults-told s p =
-    bool-cases (anyFault (faultsOf p))
-    (λ e. ap (λ (b : Bool). bits-of s (responseType (p .cmd1)) (cond b (Failed (faultsOf p)) (judgeCommand (p .command)))) e ∙ bits-failed s (responseType (p .cmd1)) (faultsOf p))
-    (λ e.
-    ap (λ (b : Bool). bits-of s (responseType (p .cmd1)) (cond b (Failed (faultsOf p)) (judgeCommand (p .command)))) e
-    ∙ bits-command s (responseType (p .cmd1)) (p .command)
-    ∙ sym (none-held (faultsOf p) e))
+    cond-cases (λ j. bits-of s (responseType (p .cmd1)) j ≡ faultsHeld (faultsOf p)) (anyFault (faultsOf p))
+    (λ e. bits-failed s (responseType (p .cmd1)) (faultsOf p))
+    (λ e. bits-command s (responseType (p .cmd1)) (p .command) ∙ sym (none-held (faultsOf p) e))

@@ -17,7 +17,7 @@ use Rattle.packet.specs.declared.receiver.Receiver.{Receiver as PacketReceiver}
 use Rattle.packet.proofs.Cases.{bool-cases}
 use Rattle.packet.proofs.StreamLaws.{IsPacket}
 use Rattle.packet.proofs.BytesLaws.{sum-append}
-use Rattle.packet.proofs.ReceiverLaws.{with-nil as packet-with-nil, missing-least, waits as packet-waits, completes as packet-completes, after as packetAfter, cut as packet-cut, behind as packet-behind, take-byte as packet-take-byte, take-checksum as packet-take-checksum, with-header, with-held, with-dropped, Between as PacketBetween, first-of as packet-first-of, too-few as packet-too-few}
+use Rattle.packet.proofs.ReceiverLaws.{with-nil as packet-with-nil, missing-least, waits as packet-waits, completes as packet-completes, after as packetAfter, cut as packet-cut, behind as packet-behind, take-byte as packet-take-byte, take-checksum as packet-take-checksum, with-header as packet-with-header, with-held, with-dropped, Between as PacketBetween, first-of as packet-first-of, too-few as packet-too-few}
 use Rattle.dlpc200.specs.Packet.{checksum, rightSum}
 use Rattle.dlpc200.specs.Receiver.{framedBy, summed, with, taking, receiving}
 use Rattle.dlpc200.specs.declared.receiver.Receiver.{Receiver}
@@ -69,14 +69,13 @@ summed-nil : (r : Receiver) → r .sum < 256 → summed r [] ≡ r .sum
 unfolding summed sum
 summed-nil r h = rw (drop-nil (4 - r .received)) (omega arith)
 
--- a byte up to CMD4, and one after it
-summed-before : (r : Receiver) (b : ℕ) → r .received < 4 → r .sum < 256 → summed r (b ∷ []) ≡ r .sum
+-- one byte, up to CMD4 or after it
+summed-one : (r : Receiver) (b : ℕ) → r .sum < 256 → summed r (b ∷ []) ≡ cond (ltb (r .received) 4) (r .sum) ((r .sum + b) % 256)
 unfolding summed sum
-summed-before r b h l = rw (drop-of-length-le (b ∷ []) {i = 4 - r .received} (omega arith)) (omega arith)
-
-summed-behind : (r : Receiver) (b : ℕ) → 4 ≤ r .received → summed r (b ∷ []) ≡ (r .sum + b) % 256
-unfolding summed sum
-summed-behind r b h = let z : 4 - r .received ≡ 0 = omega arith in rw z (omega arith)
+summed-one r b l =
+    bool-cases (ltb (r .received) 4)
+    (λ e. let h = ltb-true (r .received) 4 e in rw (e, drop-of-length-le (b ∷ []) {i = 4 - r .received} (omega arith)) (omega arith))
+    (λ e. let z : 4 - r .received ≡ 0 = omega (arith, ltb-false (r .received) 4 e) in rw (e, z) (omega arith))
 
 pub made-with : (r : Receiver) (b : List ℕ) → Made r → Made (with r b)
 unfolding with packetWith summed
@@ -189,16 +188,6 @@ no-bytes r s =
 
 -- One byte of a call, as the code goes through its input.
 module _ (r : Receiver) (xs : List ℕ) (i : ℕ) where
-  -- a byte that is not the checksum, where q is the receiver with that byte
-  one-more : {q : Receiver} → length (r .header) ≡ 6 → i < length xs → r .received < 6 + payloadLength (r .header) → with r (getD xs i 0 ∷ []) ≡ q
-      → after i (receiving r (drop i xs)) ≡ after (i + 1) (receiving q (drop (i + 1) xs))
-  one-more {q} h l n e =
-      let d : drop i xs ≡ getD xs i 0 ∷ drop (i + 1) xs = rw (add-one i) (drop-cons xs i 0 l) in
-      ap (λ (b : List ℕ). after i (receiving r b)) d
-      ∙ ap (after i) (go-on r (getD xs i 0 ∷ []) (drop (i + 1) xs) (rw d at (packet-take-byte (framedBy r) 0 xs i h l n)))
-      ∙ ap (λ (x : Receiver). after i (after 1 (receiving x (drop (i + 1) xs)))) e
-      ∙ after-after i 1 (receiving q (drop (i + 1) xs))
-
   pub take-checksum : length (r .header) ≡ 6 → r .sum < 256 → i < length xs → 6 + payloadLength (r .header) ≤ r .received
       → receiving r (drop i xs)
       ≡ record {
@@ -212,38 +201,41 @@ module _ (r : Receiver) (xs : List ℕ) (i : ℕ) where
       let g : getD (drop i xs) 0 0 ≡ getD xs i 0 = getD-drop i xs 0 0 ∙ ap (λ (k : ℕ). getD xs k 0) (add-zero i) in
       rw (packet-take-checksum (framedBy r) 0 xs i h (omega arith) l n, g, summed-nil r s)
 
-  pub take-nothing : r .sum < 256 → length xs ≤ i → after i (receiving r (drop i xs)) ≡ record { taken = i; complete = false; right = false; receiver = r }
-  take-nothing s l = ap (after i) (rw (drop-of-length-le xs {i = i} l) (no-bytes r s)) ∙ received-eq (add-zero i) refl refl
+  pub take-nothing : r .sum < 256 → length xs ≡ i → after i (receiving r (drop i xs)) ≡ record { taken = length xs; complete = false; right = false; receiver = r }
+  take-nothing s l =
+      let d : drop i xs ≡ [] = drop-of-length-le xs {i = i} (omega arith) in
+      rw (d, no-bytes r s) (received-eq (omega arith) refl refl)
 
-  -- and so the loop goes on
+  -- a byte that is not the checksum, where q is the receiver with that byte: the loop goes on
   pub goes-on : {t : Received} {q : Receiver} → Made r → i < length xs → r .received < 6 + payloadLength (r .header) → t ≡ after i (receiving r (drop i xs))
       → with r (getD xs i 0 ∷ []) ≡ q → (i + 1 ≤ length xs) × Made q × (t ≡ after (i + 1) (receiving q (drop (i + 1) xs)))
-  goes-on m l n h e = (omega arith, subst Made e (made-with r (getD xs i 0 ∷ []) m), h ∙ one-more (m .header) l n e)
+  goes-on {t} {q} m l n h e =
+      let d : drop i xs ≡ getD xs i 0 ∷ drop (i + 1) xs = rw (add-one i) (drop-cons xs i 0 l) in (
+        omega arith,
+        subst Made e (made-with r (getD xs i 0 ∷ []) m),
+        h
+            ∙ ap (λ (b : List ℕ). after i (receiving r b)) d
+            ∙ ap (after i) (go-on r (getD xs i 0 ∷ []) (drop (i + 1) xs) (rw d at (packet-take-byte (framedBy r) 0 xs i (m .header) l n)))
+            ∙ ap (λ (x : Receiver). after i (after 1 (receiving x (drop (i + 1) xs)))) e
+            ∙ after-after i 1 (receiving q (drop (i + 1) xs)),
+      )
 
--- The receiver with one byte more: up to CMD4, of the length field, of the ID, or of the data behind it.
-module _ (r : Receiver) (b : ℕ) where
-  with-by : {q : PacketReceiver} {s : ℕ} → packetWith (framedBy r) 0 (b ∷ []) ≡ q → summed r (b ∷ []) ≡ s
-      → with r (b ∷ []) ≡ record { header = q .header; id = q .hold; sum = s; received = q .received }
+-- The receiver with one byte more: of the header, of the ID, or of the data after it.
+module _ (r : Receiver) (b : ℕ) (m : Made r) {s : ℕ} (e : s ≡ cond (ltb (r .received) 4) (r .sum) ((r .sum + b) % 256)) where
+  with-by : {q : PacketReceiver} → packetWith (framedBy r) 0 (b ∷ []) ≡ q → with r (b ∷ []) ≡ record { header = q .header; id = q .hold; sum = s; received = q .received }
   unfolding with
-  with-by e f = rw (e, f)
+  with-by f = rw (f, summed-one r b (m .sum), e)
 
-  pub with-command : r .received < 4 → r .sum < 256 → with r (b ∷ []) ≡ record { header = set (r .header) (r .received) b; id = r .id; sum = r .sum; received = r .received + 1 }
-  with-command h s = with-by (with-header (framedBy r) 0 b {s = b % 256} (omega arith) (omega arith)) (summed-before r b h s)
+  pub with-header : r .received < 6 → with r (b ∷ []) ≡ record { header = set (r .header) (r .received) b; id = r .id; sum = s; received = r .received + 1 }
+  with-header l = with-by (packet-with-header (framedBy r) 0 b {s = b % 256} l (omega arith))
 
-  pub with-length : {s : ℕ} → 4 ≤ r .received → r .received < 6 → s ≡ (r .sum + b) % 256
-      → with r (b ∷ []) ≡ record { header = set (r .header) (r .received) b; id = r .id; sum = s; received = r .received + 1 }
-  with-length h l e = with-by (with-header (framedBy r) 0 b {s = b % 256} l (omega arith)) (summed-behind r b h ∙ sym e)
-
-  pub with-id : {s : ℕ} → length (r .header) ≡ 6 → 6 ≤ r .received → s ≡ (r .sum + b) % 256
-      → with r (b ∷ []) ≡ record { header = r .header; id = set (r .id) (r .received - 6) b; sum = s; received = r .received + 1 }
-  with-id n h e =
+  pub with-id : 6 ≤ r .received → with r (b ∷ []) ≡ record { header = r .header; id = set (r .id) (r .received - 6) b; sum = s; received = r .received + 1 }
+  with-id h =
       let z : 0 + (r .received - 6) ≡ r .received - 6 = omega arith in
-      rw z at (with-by (with-held (framedBy r) 0 b {s = b % 256} n h (omega arith)) (summed-behind r b (omega arith) ∙ sym e))
+      rw z at (with-by (with-held (framedBy r) 0 b {s = b % 256} (m .header) h (omega arith)))
 
-  pub with-data : {s : ℕ} → Made r → 8 ≤ r .received → s ≡ (r .sum + b) % 256
-      → with r (b ∷ []) ≡ record { header = r .header; id = r .id; sum = s; received = r .received + 1 }
-  with-data m h e =
-      with-by (with-dropped (framedBy r) 0 b {s = b % 256} (m .header) (omega arith) (omega arith) (omega (arith, m .id))) (summed-behind r b (omega arith) ∙ sym e)
+  pub with-data : 8 ≤ r .received → with r (b ∷ []) ≡ record { header = r .header; id = r .id; sum = s; received = r .received + 1 }
+  with-data h = with-by (with-dropped (framedBy r) 0 b {s = b % 256} (m .header) (omega arith) (omega arith) (omega (arith, m .id)))
 
 -- A receiver between two packets.
 pub record Between (r : Receiver) : Type 0 where

@@ -1,5 +1,5 @@
 -- Responses as they are written: the bytes stored, and the packet that they are.
-use Prim.Native.Nat.{ℕ, _+_, _%_, _≤_}
+use Prim.Native.Nat.{ℕ, _+_, _≤_}
 use mathlib.Core.Path.{_≡_, refl, ap, _∙_}
 use mathlib.Core.Bool.{true}
 use mathlib.Core.List.{List, [], _∷_, _++_}
@@ -8,7 +8,6 @@ use borrow.Author.Tests.{eq-eqb}
 use lib.ListN.{length, take, drop}
 use lib.Seq.{sets}
 use Rattle.packet.specs.Number.{bytesOf}
-use Rattle.packet.specs.Packet.{sum}
 use Rattle.packet.specs.Stream.{size}
 use Rattle.packet.proofs.BytesLaws.{sets-front}
 use Rattle.packet.proofs.StreamLaws.{IsPacket}
@@ -24,27 +23,11 @@ use Rattle.dlpc200.specs.declared.states.Shown.{Shown}
 use Rattle.dlpc200.specs.declared.states.Shown.the-variants.{State, Nothing}
 use Rattle.dlpc200.specs.Playing.{judged, answerTo}
 
--- bytes stored at the start of a buffer, where they are this packet
-stored : (out b p : List ℕ) → length b ≤ length out → b ≡ p → sets out 0 b ≡ written p out
-unfolding written
-stored out b p l e = sets-front b out l ∙ ap (λ (x : List ℕ). x ++ drop (length x) out) e
-
-module _ (out : List ℕ) (l : 10 ≤ length out) (kind : ℕ) where
-  pub status-stored : (d0 d1 : ℕ) {s : ℕ} → s ≡ ((2 + d0) % 256 + d1) % 256
-      → sets out 0 (kind ∷ 0xAA ∷ 0x00 ∷ 0x00 ∷ 0x02 ∷ 0x00 ∷ d0 ∷ d1 ∷ s ∷ []) ≡ written (packetOf kind (d0 ∷ d1 ∷ [])) out
-  unfolding packetOf bytesOf checksum sum
-  status-stored d0 d1 {s} e =
-      let f : s ≡ (2 + (0 + (d0 + (d1 + 0)))) % 256 = omega arith in
-      stored out (kind ∷ 0xAA ∷ 0x00 ∷ 0x00 ∷ 0x02 ∷ 0x00 ∷ d0 ∷ d1 ∷ s ∷ []) (packetOf kind (d0 ∷ d1 ∷ [])) (omega arith)
-      (ap (λ (x : ℕ). kind ∷ 0xAA ∷ 0x00 ∷ 0x00 ∷ 0x02 ∷ 0x00 ∷ d0 ∷ d1 ∷ x ∷ []) f)
-
-  pub state-stored : (v : ℕ) {s : ℕ} → s ≡ (3 + v) % 256
-      → sets out 0 (kind ∷ 0xAA ∷ 0x00 ∷ 0x00 ∷ 0x03 ∷ 0x00 ∷ 0x00 ∷ 0x00 ∷ v ∷ s ∷ []) ≡ written (packetOf kind (0x00 ∷ 0x00 ∷ v ∷ [])) out
-  unfolding packetOf bytesOf checksum sum
-  state-stored v {s} e =
-      let f : s ≡ (3 + (0 + (0 + (0 + (v + 0))))) % 256 = omega arith in
-      stored out (kind ∷ 0xAA ∷ 0x00 ∷ 0x00 ∷ 0x03 ∷ 0x00 ∷ 0x00 ∷ 0x00 ∷ v ∷ s ∷ []) (packetOf kind (0x00 ∷ 0x00 ∷ v ∷ [])) (omega arith)
-      (ap (λ (x : ℕ). kind ∷ 0xAA ∷ 0x00 ∷ 0x00 ∷ 0x03 ∷ 0x00 ∷ 0x00 ∷ 0x00 ∷ v ∷ x ∷ []) f)
+-- the bytes of a packet, stored at the start of a buffer, the last of them being its checksum
+pub stored : (out : List ℕ) (kind : ℕ) (d : List ℕ) {s : ℕ} → length (front kind d ++ (s ∷ [])) ≤ length out → s ≡ checksum (front kind d)
+    → sets out 0 (front kind d ++ (s ∷ [])) ≡ written (packetOf kind d) out
+unfolding written packetOf
+stored out kind d {s} l e = sets-front (front kind d ++ (s ∷ [])) out l ∙ ap (λ (x : ℕ). (front kind d ++ (x ∷ [])) ++ drop (length (front kind d ++ (x ∷ []))) out) e
 
 -- Every response is one whole packet with a right checksum.
 

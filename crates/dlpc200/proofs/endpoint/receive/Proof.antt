@@ -1,75 +1,56 @@
--- `receive` meets its contract.
-use mathlib.Core.Path.{_≡_, sym, ap, _∙_}
-use mathlib.Core.Bool.{true, false}
-use mathlib.Core.List.{List}
-use Prim.Native.Nat.{ℕ, _≤_}
-use borrow.Author.Tests.{lt-ltb, le-ltb, not-true, not-false}
-use denote.Ref.{now}
-use lib.ListN.{length}
-use Rattle.dlpc200.specs.Receiver.{receiving}
-use Rattle.dlpc200.specs.declared.receiver.Received.{Received}
-use Rattle.dlpc200.specs.Device.{inRule}
-use Rattle.dlpc200.specs.Endpoint.{judgedIn, responseIn, completeBy, After, waiting, answered, receiveCall}
-use Rattle.dlpc200.specs.declared.device.Device.{Device}
+-- `receive` meets its contract: each return has the tests that led to it.
+use mathlib.Core.Path.{sym, _∙_}
 use borrow.Author.Needs.{needs}
+use borrow.Author.Tests.{lt-ltb, le-ltb, not-true, not-false}
+use Rattle.dlpc200.specs.Endpoint.{judgedIn, responseIn, receiveCall}
 use Rattle.dlpc200.proofs.endpoint.receive.Statement.{statement}
 use Rattle.dlpc200.proofs.endpoint.receive.Tie as tie
 
--- A call that is not refused, t being what the receiver took.
-module _
-    (d : Device)
-    (input out : List ℕ)
-    (l : 64 ≤ length out)
-    (r : inRule d ≡ true)
-    {t : Received}
-    (e : t ≡ receiving (d .receiver) input) where
-  waits : t .complete ≡ false → receiveCall d input out ≡ waiting (d .states) t out
-  unfolding receiveCall
-  waits f = rw (le-ltb (length out) 64 l, r, ← e, f)
-
-  answers : t .complete ≡ true → receiveCall d input out ≡ answered (d .states) (completeBy (t .taken) (t .right) (t .receiver)) out
-  unfolding receiveCall responseIn judgedIn
-  answers f = rw (le-ltb (length out) 64 l, r, ← e, f)
-
+-- the output is too short
 returns : tie.Need-returns
 unfolding receiveCall
 returns c = let e = lt-ltb _ _ (c .if1 .taken) in (rw e, rw e, rw e)
 
+-- the device is out of rule
 returns-2 : tie.Need-returns-2
 unfolding receiveCall
 returns-2 c =
-    let e = le-ltb _ _ (c .before .if1 .left) in
-    let f = sym (c .before .before .in-rule .ensures) ∙ not-true (c .before .before .in-rule .result) (c .if2 .taken) in
-    (rw (e, f), rw (e, f), rw (e, f))
+    let e = le-ltb _ _ (c .before .before .if1 .left) in
+    let r = sym (c .before .in-rule .ensures) ∙ not-true _ (c .if2 .taken) in
+    (rw (e, r), rw (e, r), rw (e, r))
 
+-- a packet is complete
 returns-3 : tie.Need-returns-3
+unfolding receiveCall responseIn judgedIn
 returns-3 c =
-    let q = c .before .before .before .before .before .before in
-    let a = c .before .before .before .before .before .before .before .before .before .before .before .args in
-    let t = c .before .before .before .receive in
-    let w = waits (a .d) (now (a .input)) (now (a .out)) (q .before .if1 .left) (sym (q .before .before .in-rule .ensures) ∙ not-false (q .before .before .in-rule .result) (q .if2 .left))
-    (t .ensures) (not-true (t .result .complete) (c .if3 .taken)) in
-    (sym (ap (λ (x : After). x .answer) w), sym (ap (λ (x : After). x .device) w), sym (ap (λ (x : After). x .output) w))
+    let k = c .before .before .complete .ensures in
+    let f = c .before .before .before .before in
+    let t = f .before .receive .ensures in
+    let q = f .before .before .before .before in
+    let e = le-ltb _ _ (q .before .before .if1 .left) in
+    let r = sym (q .before .in-rule .ensures) ∙ not-false _ (q .if2 .left) in
+    (rw (e, r, ← t, f .if3 .taken) (k .0), rw (e, r, ← t, f .if3 .taken) (k .1), rw (e, r, ← t, f .if3 .taken) (k .2))
 
+-- the input ends
 returns-4 : tie.Need-returns-4
+unfolding receiveCall
 returns-4 c =
-    let q = c .before .before .before .before .before .before .before .before .before .before in
-    let a = c .before .before .before .before .before .before .before .before .before .before .before .before .before .before .before .args in
-    let t = c .before .before .before .before .before .before .before .receive in
-    let w = answers (a .d) (now (a .input)) (now (a .out)) (q .before .if1 .left) (sym (q .before .before .in-rule .ensures) ∙ not-false (q .before .before .in-rule .result) (q .if2 .left))
-    (t .ensures) (not-false (t .result .complete) (c .before .before .before .before .if3 .left)) in
-    let e = c .before .before .complete .ensures in
-    (e .0 ∙ sym (ap (λ (x : After). x .answer) w), e .1 ∙ sym (ap (λ (x : After). x .device) w), e .2 ∙ sym (ap (λ (x : After). x .output) w))
+    let f = c .before in
+    let t = f .before .receive .ensures in
+    let q = f .before .before .before .before in
+    let e = le-ltb _ _ (q .before .before .if1 .left) in
+    let r = sym (q .before .in-rule .ensures) ∙ not-false _ (q .if2 .left) in
+    (rw (e, r, ← t, f .if3 .left), rw (e, r, ← t, f .if3 .left), rw (e, r, ← t, f .if3 .left))
 
 pub receive-spec : {M : Type 1} → statement M
 receive-spec =
     tie.close
     (tie.spec
-    (λ c κs. search needs)
     returns
+    (λ c κs. search needs)
     returns-2
     (λ c κs. search needs)
-    returns-3
     (λ c κs. search needs)
     (λ c. search needs)
+    returns-3
     returns-4)

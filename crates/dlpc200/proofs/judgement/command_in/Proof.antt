@@ -1,25 +1,21 @@
 -- `command_in` meets its contract.
+use borrow.Author.Needs.{needs}
 use borrow.Author.Tests.{lt-ltb, le-ltb}
 use Rattle.dlpc200.specs.Judgement.{commandIn}
-use borrow.Author.Needs.{needs}
 use Rattle.dlpc200.proofs.judgement.command_in.Statement.{statement}
 use Rattle.dlpc200.proofs.judgement.command_in.Tie as tie
 
-returns : tie.Need-returns
-unfolding commandIn
-returns c = rw (lt-ltb (c .before .args .size) 2 (c .if1 .taken))
-
-returns-2 : tie.Need-returns-2
-unfolding commandIn
-returns-2 c = rw (c .find .ensures, le-ltb (c .before .before .before .args .size) 2 (c .before .before .if1 .left), c .before .word .ensures .0)
-
 pub command-in-spec : {M : Type 1} → statement M
+unfolding commandIn
 command-in-spec =
     tie.close
     (tie.spec
-    returns
+    (λ c. search needs)
+    (λ c. search needs)
+    (λ c κs. search needs)
+    (λ c. rw (← c .before .word .ensures .0, lt-ltb _ _ (c .if1 .taken)))
     (λ c. search needs)
     (λ c. search needs)
     (λ c κs. search needs)
     (λ c κs. search needs)
-    returns-2)
+    (λ c. let i = c .before .before in rw (c .find .ensures, c .before .word2 .ensures .0, ← i .before .word .ensures .0, le-ltb _ _ (i .if1 .left))))

@@ -4,11 +4,8 @@ use borrow.Author.Needs.{needs}
 use Rattle.dlpc200.proofs.judgement.faults_in.Statement.{statement}
 use Rattle.dlpc200.proofs.judgement.faults_in.Tie as tie
 
-returns : tie.Need-returns
-unfolding faultsOf
-returns c = rw (c .before .before .wrong-cmd1 .ensures, c .wrong-size .ensures, c .before .word .ensures .0)
-
 pub faults-in-spec : {M : Type 1} → statement M
+unfolding faultsOf
 faults-in-spec =
     tie.close
     (tie.spec
@@ -20,4 +17,4 @@ faults-in-spec =
     (λ c. search needs)
     (λ c κs. search needs)
     (λ c κs. search needs)
-    returns)
+    (λ c. rw (c .before .before .wrong-cmd1 .ensures, c .wrong-size .ensures, c .before .word .ensures .0)))

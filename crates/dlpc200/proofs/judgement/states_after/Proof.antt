@@ -3,9 +3,6 @@ use borrow.Author.Needs.{needs}
 use Rattle.dlpc200.proofs.judgement.states_after.Statement.{statement}
 use Rattle.dlpc200.proofs.judgement.states_after.Tie as tie
 
-returns-2 : tie.Need-returns-2
-returns-2 c = rw (c .before .before .j .given .1, c .park .ensures)
-
 pub states-after-spec : {M : Type 1} → statement M
 states-after-spec =
     tie.close (tie.spec
@@ -13,4 +10,4 @@ states-after-spec =
     (λ c. search needs)
     (λ c. search needs)
     (λ c κs. search needs)
-    returns-2)
+    (λ c. rw (c .before .before .j .given .1, c .park .ensures)))

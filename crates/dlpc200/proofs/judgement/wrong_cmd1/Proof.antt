@@ -4,19 +4,12 @@ use borrow.Author.Needs.{needs}
 use Rattle.dlpc200.proofs.judgement.wrong_cmd1.Statement.{statement}
 use Rattle.dlpc200.proofs.judgement.wrong_cmd1.Tie as tie
 
-returns : tie.Need-returns
-unfolding wrongCmd1
-returns c = rw (c .enum-told .given .1)
-
-returns-2 : tie.Need-returns-2
-unfolding wrongCmd1
-returns-2 c = rw (c .before .before .found .given .1, c .cmd1 .ensures)
-
 pub wrong-cmd1-spec : {M : Type 1} → statement M
+unfolding wrongCmd1
 wrong-cmd1-spec =
     tie.close (tie.spec
     (λ c. search needs)
     (λ c. search needs)
-    returns
+    (λ c. rw (c .enum-told .given .1))
     (λ c κs. search needs)
-    returns-2)
+    (λ c. rw (c .before .before .found .given .1, c .cmd1 .ensures)))

@@ -1,31 +1,23 @@
 -- `put_state` meets its contract.
-use native.Mathlib.Omega.{arith}
-use lib.ListN.{length-set}
+use mathlib.Core.List.{[], _∷_}
 use mathlib.Core.Path.{refl}
-use denote.Ref.{now}
-use Rattle.packet.specs.Number.{bytesOf}
-use Rattle.dlpc200.specs.Packet.{packetOf}
-use Rattle.dlpc200.proofs.response.Laws.{state-stored}
+use native.Mathlib.Omega.{arith}
 use borrow.Author.Needs.{needs}
+use denote.Ref.{now}
+use lib.ListN.{length-set}
+use Rattle.packet.specs.Number.{bytesOf}
+use Rattle.packet.specs.Packet.{sum}
+use Rattle.dlpc200.specs.Packet.{checksum, packetOf}
+use Rattle.dlpc200.proofs.response.Laws.{stored}
 use Rattle.dlpc200.proofs.response.put_state.Statement.{statement}
 use Rattle.dlpc200.proofs.response.put_state.Tie as tie
-
-slice-write-out-2 : tie.Need-slice-write-out-2
-slice-write-out-2 c = simp length-set (omega arith)
-
-slice-write-out-3 : tie.Need-slice-write-out-3
-slice-write-out-3 c = simp length-set (omega arith)
-
-slice-write-out-4 : tie.Need-slice-write-out-4
-slice-write-out-4 c = simp length-set (omega arith)
 
 returns : tie.Need-returns
 unfolding packetOf bytesOf
 returns c =
-    let a = c .before .before .before .before .before .before .args in (
-      refl,
-      rw (c .before .before .put-header .ensures) (state-stored (now (a .out)) (c .before .before .before .before .before .before .pre) (a .kind) (a .state) (c .before .before .before .before .wrapping-add-u8 .ensures)),
-    )
+    let k = c .before .before .before .before .before .before in
+    let a = k .args in
+    (refl, rw (c .before .before .put-header .ensures) (stored (now (a .out)) (a .kind) (0x00 ∷ 0x00 ∷ a .state ∷ []) (k .pre) (unfold checksum sum in omega arith)))
 
 pub put-state-spec : {M : Type 1} → statement M
 put-state-spec =
@@ -34,8 +26,8 @@ put-state-spec =
     (λ c κs. search needs)
     (λ c κs. search needs)
     (λ c. search needs)
-    slice-write-out-2
-    slice-write-out-3
-    slice-write-out-4
+    (λ c. simp length-set (omega arith))
+    (λ c. simp length-set (omega arith))
+    (λ c. simp length-set (omega arith))
     (λ c. search needs)
     returns)

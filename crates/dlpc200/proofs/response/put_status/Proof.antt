@@ -1,31 +1,23 @@
 -- `put_status` meets its contract.
+use mathlib.Core.List.{[], _∷_}
+use mathlib.Core.Path.{refl}
 use native.Mathlib.Omega.{arith}
-use lib.ListN.{length-set}
-use Prim.Native.Nat.{ℕ, _+_, _%_}
-use mathlib.Core.Path.{_≡_, refl, ap, _∙_}
-use denote.Ref.{now}
-use Rattle.packet.specs.Number.{bytesOf}
-use Rattle.dlpc200.specs.Packet.{packetOf}
-use Rattle.dlpc200.proofs.response.Laws.{status-stored}
 use borrow.Author.Needs.{needs}
+use denote.Ref.{now}
+use lib.ListN.{length-set}
+use Rattle.packet.specs.Number.{bytesOf}
+use Rattle.packet.specs.Packet.{sum}
+use Rattle.dlpc200.specs.Packet.{checksum, packetOf}
+use Rattle.dlpc200.proofs.response.Laws.{stored}
 use Rattle.dlpc200.proofs.response.put_status.Statement.{statement}
 use Rattle.dlpc200.proofs.response.put_status.Tie as tie
-
-slice-write-out-2 : tie.Need-slice-write-out-2
-slice-write-out-2 c = simp length-set (omega arith)
-
-slice-write-out-3 : tie.Need-slice-write-out-3
-slice-write-out-3 c = simp length-set (omega arith)
 
 returns : tie.Need-returns
 unfolding packetOf bytesOf
 returns c =
-    let a = c .before .before .before .before .before .before .before .args in
-    let s : c .before .before .before .before .wrapping-add-u82 .result ≡ ((2 + a .data0) % 256 + a .data1) % 256 =
-    c .before .before .before .before .wrapping-add-u82 .ensures ∙ ap (λ (x : ℕ). (x + a .data1) % 256) (c .before .before .before .before .before .wrapping-add-u8 .ensures) in (
-      refl,
-      rw (c .before .before .put-header .ensures) (status-stored (now (a .out)) (c .before .before .before .before .before .before .before .pre) (a .kind) (a .data0) (a .data1) s),
-    )
+    let k = c .before .before .before .before .before .before .before in
+    let a = k .args in
+    (refl, rw (c .before .before .put-header .ensures) (stored (now (a .out)) (a .kind) (a .data0 ∷ a .data1 ∷ []) (omega (arith, k .pre)) (unfold checksum sum in omega arith)))
 
 pub put-status-spec : {M : Type 1} → statement M
 put-status-spec =
@@ -35,7 +27,7 @@ put-status-spec =
     (λ c κs. search needs)
     (λ c κs. search needs)
     (λ c. search needs)
-    slice-write-out-2
-    slice-write-out-3
+    (λ c. simp length-set (omega arith))
+    (λ c. simp length-set (omega arith))
     (λ c. search needs)
     returns)

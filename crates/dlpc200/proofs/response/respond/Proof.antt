@@ -3,15 +3,6 @@ use borrow.Author.Needs.{needs}
 use Rattle.dlpc200.proofs.response.respond.Statement.{statement}
 use Rattle.dlpc200.proofs.response.respond.Tie as tie
 
-returns : tie.Need-returns
-returns c = rw (c .before .before .before .before .before .before .before .j .given .1, ← c .before .before .before .before .before .before .before .before .before .response-type .ensures, ← c .before .before .before .before .status0 .ensures, ← c .before .before .before .status1 .ensures) (c .before .before .put-status .ensures)
-
-returns-2 : tie.Need-returns-2
-returns-2 c = rw (c .before .before .before .before .before .before .before .before .before .j2 .given .1, ← c .before .before .before .before .before .before .before .shown .ensures, c .before .before .before .before .before .v .given .1, ← c .before .before .before .before .before .before .before .before .before .before .before .response-type .ensures) (c .before .before .put-state .ensures)
-
-returns-3 : tie.Need-returns-3
-returns-3 c = rw (c .before .before .before .before .before .before .before .before .j2 .given .1, ← c .before .before .before .before .before .before .shown .ensures, c .before .before .before .before .enum-told .given .1, ← c .before .before .before .before .before .before .before .before .before .before .response-type .ensures) (c .before .before .put-status2 .ensures)
-
 pub respond-spec : {M : Type 1} → statement M
 respond-spec =
     tie.close
@@ -28,8 +19,8 @@ respond-spec =
     (λ c. search needs)
     (λ c κs. search needs)
     (λ c. search needs)
-    returns
+    (λ c. rw (c .before .before .before .before .before .before .before .j .given .1, ← c .before .before .before .before .before .before .before .before .before .response-type .ensures, ← c .before .before .before .before .status0 .ensures, ← c .before .before .before .status1 .ensures) (c .before .before .put-status .ensures))
     (λ c. search needs)
-    returns-2
+    (λ c. rw (c .before .before .before .before .before .before .before .before .before .j2 .given .1, ← c .before .before .before .before .before .before .before .shown .ensures, c .before .before .before .before .before .v .given .1, ← c .before .before .before .before .before .before .before .before .before .before .before .response-type .ensures) (c .before .before .put-state .ensures))
     (λ c. search needs)
-    returns-3)
+    (λ c. rw (c .before .before .before .before .before .before .before .before .j2 .given .1, ← c .before .before .before .before .before .before .shown .ensures, c .before .before .before .before .enum-told .given .1, ← c .before .before .before .before .before .before .before .before .before .before .response-type .ensures) (c .before .before .put-status2 .ensures)))

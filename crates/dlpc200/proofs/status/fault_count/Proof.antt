@@ -5,15 +5,7 @@ use Rattle.dlpc200.specs.Status.{faultBits}
 use Rattle.dlpc200.proofs.status.Laws.{count-fits}
 use Rattle.dlpc200.proofs.status.fault_count.Statement.{statement}
 use Rattle.dlpc200.proofs.status.fault_count.Tie as tie
-use Rattle.dlpc200.proofs.status.fault_count.Reads as reads
-use Rattle.dlpc200.proofs.status.fault_count.Lts as lts
-
-add-result : tie.Need-add-result
-add-result c = record { fits = count-fits (c .args .data0) _ (c .args .data1) (search needs) (search needs) }
-
-returns : tie.Need-returns
-unfolding faultBits
-returns c = refl
 
 pub fault-count-spec : {M : Type 1} → statement M
-fault-count-spec = tie.close (tie.spec add-result returns)
+unfolding faultBits
+fault-count-spec = tie.close (tie.spec (λ c. record { fits = count-fits (c .args .data0) _ (c .args .data1) (search needs) (search needs) }) (λ c. refl))

@@ -1,11 +1,7 @@
--- `head_encode` meets its contract: of a command in the table that of `encoder::encode`, its answer as numbers.
+-- `head_encode` meets its contract: of a command in the table that of `command::encode`, its answer as numbers.
 use mathlib.Core.Path.{ap, sym, _∙_}
-use denote.Ref.{now}
 use borrow.Author.Needs.{needs}
-use Rattle.command.specs.declared.table.Found.{Found}
-use Rattle.command.specs.Encoder.{encodeCall}
-use Rattle.command.specs.declared.value.Value.{Value}
-use Rattle.imjarlet.specs.Answers.{emittedOf, writeFor, writeCall}
+use Rattle.imjarlet.specs.Answers.{emittedOf, writeCall}
 use Rattle.imjarlet.proofs.emitted.head_encode.Statement.{statement}
 use Rattle.imjarlet.proofs.emitted.head_encode.Tie as tie
 
@@ -13,11 +9,8 @@ returns : tie.Need-returns
 unfolding writeCall
 returns c =
     let t = c .before .before in
-    let a = t .before .before .before .before .args in
-    let f = sym (t .enum-told .given .1) ∙ t .before .before .find .ensures in (
-      c .emitted-of .ensures ∙ ap emittedOf (c .before .unknown .ensures ∙ ap (λ (x : Found). writeFor x (a .settings) (now (a .out)) .answer) f),
-      ap (λ (x : Found). writeFor x (a .settings) (now (a .out)) .output) f,
-    )
+    let f = sym (t .before .before .find .ensures) ∙ t .enum-told .given .1 in
+    (rw f (c .emitted-of .ensures ∙ ap emittedOf (c .before .unknown .ensures)), rw f)
 
 returns-2 : tie.Need-returns-2
 unfolding writeCall
@@ -25,14 +18,8 @@ returns-2 c =
     let e = c .before .before .before in
     let v = e .before .before in
     let t = v .before .before in
-    let a = t .before .before .before .before .args in
-    let f = sym (t .c .given .1) ∙ t .before .before .find .ensures in
-    let p = v .value-of .ensures in (
-      c .emitted-of2 .ensures
-          ∙ ap emittedOf
-          (e .encode .ensures .0 ∙ ap (λ (x : Value). encodeCall x (now (a .out)) .answer) p ∙ ap (λ (x : Found). writeFor x (a .settings) (now (a .out)) .answer) f),
-      e .encode .ensures .1 ∙ ap (λ (x : Value). encodeCall x (now (a .out)) .output) p ∙ ap (λ (x : Found). writeFor x (a .settings) (now (a .out)) .output) f,
-    )
+    let f = sym (t .before .before .find .ensures) ∙ t .c .given .1 in
+    (rw (f, ← v .value-of .ensures) (c .emitted-of2 .ensures ∙ ap emittedOf (e .encode .ensures .0)), rw (f, ← v .value-of .ensures) (e .encode .ensures .1))
 
 pub head-encode-spec : {M : Type 1} → statement M
 head-encode-spec =

@@ -1,4 +1,4 @@
--- `head_standard_list` meets its contract: that of `encoder::standard_list`, its answer as numbers.
+-- `head_standard_list` meets its contract: that of `command::standard_list`, its answer as numbers.
 use mathlib.Core.Path.{ap, _∙_}
 use borrow.Author.Needs.{needs}
 use Rattle.imjarlet.specs.Answers.{emittedOf}

@@ -2,14 +2,6 @@
 use borrow.Author.Tests.{lt-ltb, le-ltb}
 use Rattle.imjarlet.proofs.emitted.unknown.Statement.{statement}
 use Rattle.imjarlet.proofs.emitted.unknown.Tie as tie
-use Rattle.imjarlet.proofs.emitted.unknown.Reads as reads
-use Rattle.imjarlet.proofs.emitted.unknown.Lts as lts
-
-returns : tie.Need-returns
-returns c = rw (lt-ltb _ _ (c .if1 .taken))
-
-returns-2 : tie.Need-returns-2
-returns-2 c = rw (le-ltb _ _ (c .if1 .left))
 
 pub unknown-spec : {M : Type 1} → statement M
-unknown-spec = tie.close (tie.spec returns returns-2)
+unknown-spec = tie.close (tie.spec (λ c. rw (lt-ltb _ _ (c .if1 .taken))) (λ c. rw (le-ltb _ _ (c .if1 .left))))

@@ -4,19 +4,12 @@ use Rattle.imjarlet.specs.Answers.{verdictOf}
 use Rattle.imjarlet.proofs.verdict.verdict_of.Statement.{statement}
 use Rattle.imjarlet.proofs.verdict.verdict_of.Tie as tie
 
-returns : tie.Need-returns
-unfolding verdictOf
-returns c = rw (c .before .before .trial .given .1)
-
-returns-2 : tie.Need-returns-2
-unfolding verdictOf
-returns-2 c = rw (c .before .before .trial2 .given .1, c .factory .ensures)
-
 pub verdict-of-spec : {M : Type 1} → statement M
+unfolding verdictOf
 verdict-of-spec =
     tie.close (tie.spec
     (λ c. search needs)
     (λ c. search needs)
     (λ c κs. search needs)
-    returns
-    returns-2)
+    (λ c. rw (c .before .before .trial .given .1))
+    (λ c. rw (c .before .before .trial2 .given .1, c .factory .ensures)))

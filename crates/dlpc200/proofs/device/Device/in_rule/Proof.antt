@@ -1,16 +1,12 @@
 -- `Device::in_rule` meets its contract.
-use Rattle.dlpc200.specs.Device.{inRule}
 use borrow.Author.Needs.{needs}
 use Rattle.dlpc200.proofs.device.Device.in_rule.Statement.{statement}
 use Rattle.dlpc200.proofs.device.Device.in_rule.Tie as tie
 
-returns : tie.Need-returns
-unfolding inRule
-returns c = rw (c .before .in-range .ensures, c .packet-in-rule .ensures)
-
 pub in-rule-spec : {M : Type 1} → statement M
 in-rule-spec =
-    tie.close (tie.spec
+    tie.close
+    (tie.spec
     (λ c κs. search needs)
     (λ c κs. search needs)
-    returns)
+    (λ c. rw (c .before .in-range .ensures, c .unfinished .ensures)))

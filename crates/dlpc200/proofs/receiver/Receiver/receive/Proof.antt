@@ -2,10 +2,10 @@
 use mathlib.Core.Path.{_≡_, sym, ap, _∙_}
 use Prim.Native.Nat.{_≤_, _-_}
 use native.Mathlib.Omega.{arith}
+use borrow.Author.Needs.{needs}
 use lib.ListN.{length, drop}
 use Rattle.dlpc200.specs.Receiver.{receiving}
-use Rattle.dlpc200.proofs.receiver.Laws.{Made, after, after-none, goes-on, take-checksum, take-nothing, with-command, with-length, with-id, with-data}
-use borrow.Author.Needs.{needs}
+use Rattle.dlpc200.proofs.receiver.Laws.{Made, after, after-none, goes-on, take-checksum, take-nothing, with-header, with-id, with-data}
 use Rattle.dlpc200.proofs.receiver.Receiver.receive.Statement.{statement}
 use Rattle.dlpc200.proofs.receiver.Receiver.receive.Tie as tie
 
@@ -17,54 +17,45 @@ abbrev μ-loop : tie.MeasureT-loop
 
 loop-holds : tie.Need-loop-holds Inv-loop μ-loop
 loop-holds c =
-    let a = c .before .args in (
-      omega arith,
-      record { header = search needs; id = search needs; sum = search needs },
-      sym (after-none (receiving (a .t1) (a .input .now))),
-    )
+    let a = c .before .args in
+    (omega arith, record { header = search needs; id = search needs; sum = search needs }, sym (after-none (receiving (a .t1) (a .input .now))))
 
+-- the checksum
 returns : tie.Need-returns Inv-loop μ-loop
 returns c =
     let w = c .before .before .before .before .before .before in
-    let a = w .before .before .args in
-    let m = w .loop .inv .1 in
-    sym
-    (w .loop .inv .2
-    ∙ ap (after (w .loop .i)) (take-checksum (w .loop .self) (a .input .now) (w .loop .i) (m .header) (m .sum) (omega arith) (omega arith)))
+    let l = w .loop in
+    let m = l .inv .1 in
+    sym (l .inv .2 ∙ ap (after (l .i)) (take-checksum (l .self) (w .before .before .args .input .now) (l .i) (m .header) (m .sum) (omega arith) (omega arith)))
 
+-- a byte of the header, of the ID, or of the data after it
 loop-again : tie.Need-loop-again Inv-loop μ-loop
 loop-again c =
-    let w = c .before .before .before .before .before .before .before in
-    let m = w .loop .inv .1 in
-    goes-on (w .loop .self) (w .before .before .args .input .now) (w .loop .i) m (omega arith) (omega arith) (w .loop .inv .2)
-    (with-command (w .loop .self) _ (c .if2 .taken) (m .sum))
+    let u = c .before .summed in
+    let w = c .before .before .before .before .before .before .before .before in
+    let l = w .loop in
+    goes-on (l .self) (w .before .before .args .input .now) (l .i) (l .inv .1) (omega arith) (omega arith) (l .inv .2) (with-header (l .self) _ (l .inv .1) (u .ensures) (c .if2 .taken))
 
 loop-again-2 : tie.Need-loop-again-2 Inv-loop μ-loop
 loop-again-2 c =
+    let u = c .before .before .summed in
     let w = c .before .before .before .before .before .before .before .before .before in
-    let m = w .loop .inv .1 in
-    goes-on (w .loop .self) (w .before .before .args .input .now) (w .loop .i) m (omega arith) (omega arith) (w .loop .inv .2)
-    (with-length (w .loop .self) _ (c .before .before .if2 .left) (c .if3 .taken) (c .before .wrapping-add-u8 .ensures))
+    let l = w .loop in
+    goes-on (l .self) (w .before .before .args .input .now) (l .i) (l .inv .1) (omega arith) (omega arith) (l .inv .2) (with-id (l .self) _ (l .inv .1) (u .ensures) (c .before .if2 .left))
 
 loop-again-3 : tie.Need-loop-again-3 Inv-loop μ-loop
 loop-again-3 c =
-    let w = c .before .before .before .before .before .before .before .before .before .before in
-    let m = w .loop .inv .1 in
-    goes-on (w .loop .self) (w .before .before .args .input .now) (w .loop .i) m (omega arith) (omega arith) (w .loop .inv .2)
-    (with-id (w .loop .self) _ (m .header) (c .before .if3 .left) (c .before .before .wrapping-add-u8 .ensures))
+    let u = c .before .before .summed in
+    let w = c .before .before .before .before .before .before .before .before .before in
+    let l = w .loop in
+    goes-on (l .self) (w .before .before .args .input .now) (l .i) (l .inv .1) (omega arith) (omega arith) (l .inv .2) (with-data (l .self) _ (l .inv .1) (u .ensures) (c .if3 .left))
 
-loop-again-4 : tie.Need-loop-again-4 Inv-loop μ-loop
-loop-again-4 c =
-    let w = c .before .before .before .before .before .before .before .before .before .before in
-    let m = w .loop .inv .1 in
-    goes-on (w .loop .self) (w .before .before .args .input .now) (w .loop .i) m (omega arith) (omega arith) (w .loop .inv .2)
-    (with-data (w .loop .self) _ m (c .if4 .left) (c .before .before .wrapping-add-u8 .ensures))
-
+-- the input ends
 returns-2 : tie.Need-returns-2 Inv-loop μ-loop
 returns-2 c =
     let w = c .before in
-    let a = w .before .before .args in
-    sym (w .loop .inv .2 ∙ take-nothing (w .loop .self) (a .input .now) (w .loop .i) (w .loop .inv .1 .sum) (omega arith))
+    let l = w .loop in
+    sym (l .inv .2 ∙ take-nothing (l .self) (w .before .before .args .input .now) (l .i) (l .inv .1 .sum) (omega arith))
 
 pub receive-spec : {M : Type 1} → statement M
 receive-spec =
@@ -81,16 +72,13 @@ receive-spec =
     (λ c. search needs)
     returns
     (λ c. search needs)
+    (λ c κs. search needs)
     (λ c. search needs)
     (λ c. search needs)
     loop-again
-    (λ c κs. search needs)
     (λ c. search needs)
     (λ c. search needs)
     loop-again-2
     (λ c. search needs)
-    (λ c. search needs)
     loop-again-3
-    (λ c. search needs)
-    loop-again-4
     returns-2)
