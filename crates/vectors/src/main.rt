@@ -1,106 +1,103 @@
-// Holds the command layer to answers that were worked out without it.
+// Runs the stored cases and prints what the library answers; `rt` holds that to the file `stdout`.
 //
-// The file `packets.bin` has packets with what each draws, and `streams.bin` streams of bytes with
-// what each leads to, each in rows. `scripts/vectors-data` makes both, and the text that this program must write,
-// from the vectors alone. A case that differs gets a line with its number, counted from 1, and each
-// file a line with its counts. The proofs of this crate say only that the program is safe and ends.
-mod difference;
-mod outcome;
-mod packets;
-mod row;
+// The file `01` has the cases of document 01, each a row: its length in four bytes, least
+// significant first, and its bytes, the first of which tells the kind. A kind has a function:
+// streams of host bytes and tuning reports. `scripts/vectors-data` makes the cases and the expected text
+// from the vectors and from document 01; nothing of it comes from this program. The proofs of this
+// crate say that the program is safe and ends.
 mod run;
-mod streams;
+mod say;
+mod stream;
 
-use outcome::Outcome;
-use saying::count;
-use saying::text;
+use packet::word;
+use report::Outcome;
+use say::number;
+use say::text;
 ghost use Prim.Native.Nat.{_≤_};
 
-// What a row of a file is.
-enum Kind {
-    Packet,
-    Stream,
-}
+// The longest case is a packet of 65,542 bytes with another after it.
+const ROOM: usize = 70000;
 
-// What the rows of a file came to: how many there are, how many of them differ, and how many cuts
-// agree.
-struct Tally {
-    rows: usize,
-    differ: usize,
-    cuts: usize,
-}
+// How many cases a file may have: nothing says that a file ends, and a program has to.
+const CASES: usize = 65536;
 
-// How many rows are read, at most; more are reported. The loop over them has to end, and nothing
-// says that a file does.
-const ROWS: usize = 65536;
-
-fn one_row(kind: Kind, number: usize, row: &[u8]) -> Outcome
-    ensures { λ r. ⌜ (r .differ ≤ 1) × (r .cuts ≤ 1701) ⌝ }
+// The lesser of two numbers.
+fn least(a: usize, b: usize) -> usize
+    ensures { λ r. ⌜ (r ≤ a) × (r ≤ b) ⌝ }
 {
-    match kind {
-        Kind::Packet => packets::try_row(number, row),
-        Kind::Stream => streams::try_row(number, row),
-    }
+    if a < b { a } else { b }
 }
 
-// The rows of a file, one after the other.
-fn all_rows(kind: Kind, fd: i32, b: &mut [u8]) -> Tally
-    ensures { λ r. ⌜ r .differ ≤ r .rows ⌝ }
-{
-    let mut rows: usize = 0;
-    let mut differ: usize = 0;
-    let mut cuts: usize = 0;
-    while rows < ROWS {
-        let row = rows::next(fd, rows + 1, b);
-        if !row.found {
-            return Tally { rows, differ, cuts };
+// A tuning report: the line of the checking program.
+fn report(b: &[u8]) {
+    let c = report::check(b);
+    let trial = c.trial;
+    match trial {
+        Outcome::Value(winner) => {
+            number(b"accepted trial ", winner);
+            number(b" score ", c.score);
         }
-        rows += 1;
-        let n = row.length;
-        let o = one_row(kind, rows, &b[0..n]);
-        differ += o.differ;
-        cuts += o.cuts;
+        Outcome::Refused { number: why, place } => {
+            number(b"refused ", why as usize);
+            number(b" at ", place);
+        }
     }
-    text(b"no more rows are read\n");
-    Tally { rows, differ, cuts }
+    text(b"\n");
 }
 
-// A whole file. Where it cannot be opened no row is run, and the counts tell.
-fn file(kind: Kind, name: &[u8]) -> Tally
-    ensures { λ r. ⌜ r .differ ≤ r .rows ⌝ }
-{
-    let fd = os::open_read(name);
-    if fd < 0 {
-        os::fail(name);
-        return Tally {
-            rows: 0,
-            differ: 0,
-            cuts: 0,
-        };
+// A row, by its kind.
+fn case(row: &[u8]) {
+    if row.len() == 0 {
+        text(b"no kind\n");
+        return;
     }
-    // The longest row has some 4,000 bytes.
-    let mut b = [0u8; 16384];
-    let t = all_rows(kind, fd, &mut b);
-    libc::close(fd);
-    t
+    match row[0] {
+        b's' => stream::tell(&row[1..]),
+        b'r' => report(&row[1..]),
+        _ => text(b"unknown kind\n"),
+    }
 }
 
-// How many agree and how many differ.
-fn tell(name: &[u8], t: Tally)
-    requires { ⌜ t .differ ≤ t .rows ⌝ }
-{
-    text(name);
-    count(b": ", t.rows - t.differ);
-    count(b" agree, ", t.differ);
-    text(b" differ");
+// Reads a row to the start of b and runs it; false where the file ends.
+fn next(fd: i32, b: &mut [u8]) -> bool {
+    let mut head = [0u8; 4];
+    if io::read_full(fd, &mut head) < 4 {
+        return false;
+    }
+    let n = word(head[0], head[1]) + 65536 * word(head[2], head[3]);
+    if b.len() < n {
+        text(b"too long\n");
+        return false;
+    }
+    if io::read_full(fd, &mut b[0..n]) < n {
+        text(b"cut short\n");
+        return false;
+    }
+    case(&b[0..n]);
+    true
+}
+
+// The rows of an open file. The number of a case stands before what is printed of it.
+fn all(fd: i32, b: &mut [u8]) {
+    let mut i: usize = 0;
+    while i < CASES {
+        i += 1;
+        number(b"case ", i);
+        text(b": ");
+        if !next(fd, b) {
+            text(b"end\n");
+            return;
+        }
+    }
 }
 
 fn main() {
-    let p = file(Kind::Packet, b"packets.bin");
-    tell(b"packets", p);
-    text(b"\n");
-    let s = file(Kind::Stream, b"streams.bin");
-    tell(b"streams", s);
-    count(b", ", s.cuts);
-    text(b" cuts\n");
+    let fd = os::open_read(b"01");
+    if fd < 0 {
+        os::fail(b"01");
+        return;
+    }
+    let mut b = [0u8; ROOM];
+    all(fd, &mut b);
+    libc::close(fd);
 }

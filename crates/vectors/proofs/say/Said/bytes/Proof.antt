@@ -1,0 +1,28 @@
+-- `bytes` is safe and ends. The loop's invariant: the place is within the bytes.
+use Prim.Native.Nat.{_≤_, _-_}
+use lib.ListN.{length}
+use borrow.Author.Needs.{needs}
+use Rattle.vectors.proofs.say.Said.bytes.Statement.{statement}
+use Rattle.vectors.proofs.say.Said.bytes.Tie as tie
+
+abbrev Inv-loop : tie.InvT-loop
+Inv-loop name b n end said₀ i₀ said i = (end ≤ length b) × (i ≤ end)
+
+abbrev μ-loop : tie.MeasureT-loop
+μ-loop name b n end said₀ i₀ said i = end - i
+
+pub bytes-spec : {M : Type 1} → statement M
+bytes-spec =
+    tie.close
+    (tie.spec
+    Inv-loop
+    μ-loop
+    (λ c κs. search needs)
+    (λ c κs. search needs)
+    (λ c. search needs)
+    (λ c. search needs)
+    (λ c κs. search needs)
+    (λ c. search needs)
+    (λ c. search needs)
+    (λ c. search needs)
+    (λ c. search needs))
