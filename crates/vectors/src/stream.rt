@@ -1,103 +1,133 @@
 // A stream of host bytes to a fresh controller.
 //
-// Printed are the sizes of its packets and what it leads to: how many bytes were taken, the
-// responses, the standard list of the settings at the end, how many bytes of an unfinished packet
-// have come in, and the open transfer. The stream is run whole, cut in two at each place and byte by
-// byte. The number of runs, and the digest of what they all say, tell whether all agree.
-use crate::least;
-use crate::run::feed;
-use crate::say::Said;
-use crate::say::number;
-use crate::say::text;
+// Printed are the sizes of its packets, the responses, the standard list of the settings at the end,
+// how many bytes of an unfinished packet have come in, and the open transfer. The stream is run byte
+// by byte, whole, and cut in two at each place. The digest of what all runs say tells whether they agree.
+use crate::said::Said;
+use crate::said::further;
+use crate::said::number;
+use crate::said::text;
+use command::Answer;
 use command::Controller;
 use command::Encoded;
-use command::Settings;
 use command::TransferState;
 use packet::Next;
 use packet::Receiver;
 ghost use Prim.Native.Nat.{_≤_};
 ghost use lib.ListN.{length};
 
-// Room for all responses to a stream. The longest are of some 230 bytes, and a call asks for 64.
-const ROOM: usize = 4096;
-
-// The last place at which a stream is cut: after the longest first packet but for the longest of all. With every
-// place, the work would grow with the square of a stream's length.
+// The last place at which a stream is cut. With all, the work would grow with its length's square.
 const PLACES: usize = 1700;
 
-// The sizes of the packets of a stream.
+// How far a run is, and what has been said.
+struct Run {
+    controller: Controller,
+    taken: usize,
+    said: Said,
+}
+
 fn sizes(b: &[u8]) {
     let mut at: usize = 0;
-    let mut i: usize = 0;
-    while i <= b.len() {
+    for _ in 0..b.len() {
         let Next::Packet(size) = packet::next_packet(b, at) else {
             return;
         };
         number(b" ", size);
         at = std::num::wrapping_add_usize(at, size);
-        i += 1;
     }
 }
 
-// The standard list of settings, or the number of the refusal.
-fn list(said: Said, s: Settings) -> Said {
-    let mut out = [0u8; 128];
-    match command::standard_list(s, &mut out) {
-        Encoded::Length(length) => said.bytes(b"\nlist ", &out, length),
-        Encoded::ShortOutput => said.number(b"\nrefused ", 1),
-        Encoded::NotAllowed => said.number(b"\nrefused ", 2),
-        Encoded::OutOfRule => said.number(b"\nrefused ", 3),
+fn taken_by(a: Answer) -> usize {
+    match a {
+        Answer::Waiting(taken) => taken,
+        Answer::Answered { taken, length: _ } => taken,
+        _ => 0,
     }
 }
 
-// The command of an open transfer and its data, which stand at the start of the receiver's hold.
-fn transfer(said: Said, t: TransferState, r: Receiver) -> Said {
+// One call, which is lent the bytes from the run's place to `end`.
+fn call(r: Run, b: &[u8], end: usize) -> Run
+    requires { ⌜ (r .taken ≤ end) × (end ≤ length (now b)) ⌝ }
+    ensures { λ s. ⌜ (r .taken ≤ s .taken) × (s .taken ≤ end) ⌝ }
+{
+    let at = r.taken;
+    let said = r.said;
+    let mut out = [0u8; 64];
+    let s = command::receive(r.controller, &b[at..end], &mut out);
+    let controller = s.controller;
+    let answer = s.answer;
+    Run {
+        controller: controller,
+        taken: further(at, taken_by(answer), end),
+        said: match answer {
+            Answer::Answered { taken: _, length } => said.bytes(b" ", &out, length),
+            _ => said,
+        },
+    }
+}
+
+// The unfinished packet, and the open transfer, whose data stands at the start of the hold.
+fn received(said: Said, r: Receiver, t: TransferState) -> Said {
+    let told = said.number(b"\nunfinished ", r.received);
     if t.active == 0 {
-        return said.bytes(b"\nno transfer", b"", 0);
+        return told;
     }
     let code = [t.cmd1, t.cmd2];
     let hold = r.hold;
-    said.bytes(b"\ntransfer ", &code, 2)
+    told.bytes(b"\ntransfer ", &code, 2)
         .bytes(b" ", &hold, t.held)
 }
 
-fn end(said: Said, c: Controller) -> Said {
-    let s = c.settings;
-    let t = c.transfer;
-    let r = c.receiver;
-    let unfinished = list(said, s).number(b"\nunfinished ", r.received);
-    transfer(unfinished, t, r)
+fn finish(said: Said, c: Controller) -> Said {
+    let told = received(said, c.receiver, c.transfer);
+    let mut list = [0u8; 128];
+    match command::standard_list(c.settings, &mut list) {
+        Encoded::Length(length) => told.bytes(b"\nlist ", &list, length),
+        _ => told,
+    }
 }
 
-// What a run over b says.
-fn one(said: Said, b: &[u8], cut: usize, size: usize) -> Said
+// Where a piece of n bytes ends that are cut after the first `cut`, and from there on by this size.
+fn piece_end(at: usize, cut: usize, size: usize, n: usize) -> usize
+    requires { ⌜ (at ≤ n) × (cut ≤ n) ⌝ }
+    ensures { λ r. ⌜ (at ≤ r) × (r ≤ n) ⌝ }
+{
+    if at < cut { cut } else { further(at, size, n) }
+}
+
+// A run over b in such pieces. The last call takes nothing: at the end of b it is lent no bytes.
+fn feed(said: Said, b: &[u8], cut: usize, size: usize) -> Said
     requires { ⌜ cut ≤ length (now b) ⌝ }
 {
-    let mut out = [0u8; ROOM];
-    let r = feed(b, cut, size, &mut out);
-    let c = r.controller;
-    let taken = said.number(b"\ntaken ", r.taken);
-    end(taken.bytes(b"\nresponses ", &out, r.written), c)
+    let mut r = Run {
+        controller: Controller::fresh(),
+        taken: 0,
+        said: said,
+    };
+    loop {
+        let at = r.taken;
+        r = call(r, b, piece_end(at, cut, size, b.len()));
+        if r.taken == at {
+            return finish(r.said, r.controller);
+        }
+    }
 }
 
-// The first run is byte by byte and told aloud; then b is cut at each place up to the last. Cut at
-// place 0 it is whole.
 pub fn tell(b: &[u8]) {
     text(b"packets");
     sizes(b);
-    let first = Said {
+    text(b"\nresponses");
+    let aloud = Said {
         aloud: true,
         digest: 0,
     };
-    let mut said = one(first, b, 0, 1);
+    let mut said = feed(aloud, b, 0, 1);
     said.aloud = false;
-    let last = least(b.len(), PLACES);
-    let mut k: usize = 0;
-    while k <= last {
-        said = one(said, b, k, b.len());
-        k += 1;
+    let cuts = further(0, PLACES, b.len()) + 1;
+    for k in 0..cuts {
+        said = feed(said, b, k, b.len());
     }
-    number(b"\nruns ", k + 1);
+    number(b"\ncuts ", cuts);
     number(b" digest ", said.digest as usize);
     text(b"\n");
 }

@@ -1,4 +1,4 @@
--- `tell` is safe and ends. The loop's invariant: the place of the cut is at most one past the last.
+-- `tell` is safe and ends. The loop's invariant: a cut is within the stream.
 use Prim.Native.Nat.{_≤_, _+_, _-_}
 use lib.ListN.{length}
 use borrow.Author.Needs.{needs}
@@ -6,10 +6,10 @@ use Rattle.vectors.proofs.stream.tell.Statement.{statement}
 use Rattle.vectors.proofs.stream.tell.Tie as tie
 
 abbrev Inv-loop : tie.InvT-loop
-Inv-loop b said₀ last k₀ t7 t8 t9 said k = (last ≤ length b) × (last ≤ 1700) × (k ≤ last + 1)
+Inv-loop b said₀ cuts k₀ t8 t9 t10 said k = (cuts ≤ length b + 1) × (cuts ≤ 1701) × (k ≤ cuts)
 
 abbrev μ-loop : tie.MeasureT-loop
-μ-loop b said₀ last k₀ t7 t8 t9 said k = last + 1 - k
+μ-loop b said₀ cuts k₀ t8 t9 t10 said k = cuts - k
 
 pub tell-spec : {M : Type 1} → statement M
 tell-spec =
@@ -20,11 +20,13 @@ tell-spec =
     (λ c. search needs)
     (λ c κs. search needs)
     (λ c κs. search needs)
+    (λ c. search needs)
+    (λ c κs. search needs)
     (λ c κs. search needs)
     (λ c κs. search needs)
     (λ c. search needs)
-    (λ c κs. search needs)
     (λ c. search needs)
+    (λ c κs. search needs)
     (λ c. search needs)
     (λ c. search needs)
     (λ c. search needs)

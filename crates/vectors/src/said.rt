@@ -1,6 +1,6 @@
 // What is printed, and the digest of what the runs of a case say.
-use crate::least;
 use libc::STDOUT_FILENO;
+ghost use Prim.Native.Nat.{_+_, _≤_};
 
 pub fn text(t: &[u8]) {
     io::write_all(STDOUT_FILENO, t);
@@ -12,11 +12,19 @@ pub fn number(name: &[u8], n: usize) {
     io::print_decimal(STDOUT_FILENO, n as u64);
 }
 
+// The place that is so many bytes further on, or the end.
+pub fn further(at: usize, more: usize, end: usize) -> usize
+    requires { ⌜ at ≤ end ⌝ }
+    ensures { λ r. ⌜ (at ≤ r) × (r ≤ end) × (r ≤ at + more) ⌝ }
+{
+    if end - at < more { end } else { at + more }
+}
+
 // The largest prime below 2^32.
 const PRIME: u64 = 4294967291;
 
-// What runs have said so far: as the digits of one number to the base 256, modulo the prime. Two
-// texts that differ in one byte have two digests. Only what is said aloud is printed too.
+// What runs say is digits of one number to the base 256. The digest is its remainder by the prime:
+// where one byte differs, the digest does. What is said aloud is also printed.
 pub struct Said {
     pub aloud: bool,
     pub digest: u32,
@@ -28,7 +36,6 @@ impl Said {
         self
     }
 
-    // A number, after its name.
     pub fn number(self, name: &[u8], n: usize) -> Said {
         if self.aloud {
             number(name, n);
@@ -43,18 +50,15 @@ impl Said {
         self.digit(b as u64)
     }
 
-    // The first n bytes of b in hexadecimal, after their name.
-    pub fn bytes(self, name: &[u8], b: &[u8], n: usize) -> Said {
+    // The first n bytes of b in hexadecimal.
+    pub fn bytes(mut self, name: &[u8], b: &[u8], n: usize) -> Said {
         if self.aloud {
             text(name);
         }
-        let end = least(n, b.len());
-        let mut said = self;
-        let mut i: usize = 0;
-        while i < end {
-            said = said.byte(b[i]);
-            i += 1;
+        let end = further(0, n, b.len());
+        for i in 0..end {
+            self = self.byte(b[i]);
         }
-        said
+        self
     }
 }

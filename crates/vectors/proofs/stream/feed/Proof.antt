@@ -1,16 +1,15 @@
 -- `feed` is safe and ends: each turn that goes on has taken a byte.
-use mathlib.Core.Path.{_≡_}
 use Prim.Native.Nat.{_≤_, _-_}
 use lib.ListN.{length}
 use borrow.Author.Needs.{needs}
-use Rattle.vectors.proofs.run.feed.Statement.{statement}
-use Rattle.vectors.proofs.run.feed.Tie as tie
+use Rattle.vectors.proofs.stream.feed.Statement.{statement}
+use Rattle.vectors.proofs.stream.feed.Tie as tie
 
 abbrev Inv-loop : tie.InvT-loop
-Inv-loop b cut size out₀ r₀ out r = (length out ≡ length out₀) × (r .taken ≤ length b) × (r .written ≤ length out)
+Inv-loop b cut size r₀ r = r .taken ≤ length b
 
 abbrev μ-loop : tie.MeasureT-loop
-μ-loop b cut size out₀ r₀ out r = length b - r .taken
+μ-loop b cut size r₀ r = length b - r .taken
 
 pub feed-spec : {M : Type 1} → statement M
 feed-spec =
@@ -22,7 +21,7 @@ feed-spec =
     (λ c. search needs)
     (λ c κs. search needs)
     (λ c κs. search needs)
-    (λ c. search needs)
+    (λ c κs. search needs)
     (λ c. search needs)
     (λ c. search needs)
     (λ c. search needs))

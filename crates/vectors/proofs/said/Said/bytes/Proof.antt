@@ -2,14 +2,14 @@
 use Prim.Native.Nat.{_≤_, _-_}
 use lib.ListN.{length}
 use borrow.Author.Needs.{needs}
-use Rattle.vectors.proofs.say.Said.bytes.Statement.{statement}
-use Rattle.vectors.proofs.say.Said.bytes.Tie as tie
+use Rattle.vectors.proofs.said.Said.bytes.Statement.{statement}
+use Rattle.vectors.proofs.said.Said.bytes.Tie as tie
 
 abbrev Inv-loop : tie.InvT-loop
-Inv-loop name b n end said₀ i₀ said i = (end ≤ length b) × (i ≤ end)
+Inv-loop self₀ name b n end i₀ self i = (end ≤ length b) × (i ≤ end)
 
 abbrev μ-loop : tie.MeasureT-loop
-μ-loop name b n end said₀ i₀ said i = end - i
+μ-loop self₀ name b n end i₀ self i = end - i
 
 pub bytes-spec : {M : Type 1} → statement M
 bytes-spec =
