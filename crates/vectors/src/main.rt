@@ -16,8 +16,8 @@ use said::text;
 // The longest case is a packet of 65,542 bytes with another after it.
 const ROOM: usize = 70000;
 
-// How many cases a file may have: nothing says that a file ends.
-const CASES: usize = 65536;
+// More rows than a file has: nothing says that a file ends.
+const ROWS: usize = 65536;
 
 // A tuning report: the line of the checking program.
 fn report(b: &[u8]) {
@@ -25,19 +25,19 @@ fn report(b: &[u8]) {
     let trial = c.trial;
     match trial {
         Outcome::Value(winner) => {
-            number(b"accepted trial ", winner);
+            number(b": accepted trial ", winner);
             number(b" score ", c.score);
         }
         Outcome::Refused { number: why, place } => {
-            number(b"refused ", why as usize);
+            number(b": refused ", why as usize);
             number(b" at ", place);
         }
     }
     text(b"\n");
 }
 
-// Reads a row and runs it; false where there is no whole row.
-fn next(fd: i32, b: &mut [u8]) -> bool {
+// Reads the row of this number and runs it; false where there is no whole row.
+fn next(fd: i32, row: usize, b: &mut [u8]) -> bool {
     let mut head = [0u8; 5];
     if io::read_full(fd, &mut head) < 5 {
         return false;
@@ -49,20 +49,18 @@ fn next(fd: i32, b: &mut [u8]) -> bool {
     if io::read_full(fd, &mut b[0..n]) < n {
         return false;
     }
+    number(b"case ", row);
     match head[0] {
         b's' => stream::tell(&b[0..n]),
         b'r' => report(&b[0..n]),
-        _ => text(b"unknown kind\n"),
+        _ => text(b" of no known kind\n"),
     }
     true
 }
 
 fn all(fd: i32, b: &mut [u8]) {
-    for i in 1..CASES {
-        number(b"case ", i);
-        text(b": ");
-        if !next(fd, b) {
-            text(b"end\n");
+    for row in 1..ROWS {
+        if !next(fd, row, b) {
             return;
         }
     }
@@ -70,10 +68,6 @@ fn all(fd: i32, b: &mut [u8]) {
 
 fn main() {
     let fd = os::open_read(b"01");
-    if fd < 0 {
-        os::fail(b"01");
-        return;
-    }
     let mut b = [0u8; ROOM];
     all(fd, &mut b);
     libc::close(fd);

@@ -30,34 +30,29 @@ pub struct Said {
     pub digest: u32,
 }
 
+fn wide(b: u8) -> u64 {
+    b as u64
+}
+
 impl Said {
-    fn digit(mut self, n: u64) -> Said {
+    // A number in hexadecimal, after its name.
+    pub fn hex(mut self, name: &[u8], n: u64) -> Said {
+        if self.aloud {
+            text(name);
+            io::print_hex(STDOUT_FILENO, n, 2);
+        }
         self.digest = ((self.digest as u64 * 256 + n % PRIME) % PRIME) as u32;
         self
     }
 
-    pub fn number(self, name: &[u8], n: usize) -> Said {
-        if self.aloud {
-            number(name, n);
-        }
-        self.digit(n as u64)
-    }
-
-    fn byte(self, b: u8) -> Said {
-        if self.aloud {
-            io::print_hex(STDOUT_FILENO, b as u64, 2);
-        }
-        self.digit(b as u64)
-    }
-
-    // The first n bytes of b in hexadecimal.
+    // The first n bytes of b.
     pub fn bytes(mut self, name: &[u8], b: &[u8], n: usize) -> Said {
         if self.aloud {
             text(name);
         }
         let end = further(0, n, b.len());
         for i in 0..end {
-            self = self.byte(b[i]);
+            self = self.hex(b"", wide(b[i]));
         }
         self
     }

@@ -13,7 +13,7 @@ use command::Encoded;
 use command::TransferState;
 use packet::Next;
 use packet::Receiver;
-ghost use Prim.Native.Nat.{_≤_};
+ghost use Prim.Native.Nat.{_+_, _≤_};
 ghost use lib.ListN.{length};
 
 // The last place at which a stream is cut. With all, the work would grow with its length's square.
@@ -68,7 +68,7 @@ fn call(r: Run, b: &[u8], end: usize) -> Run
 
 // The unfinished packet, and the open transfer, whose data stands at the start of the hold.
 fn received(said: Said, r: Receiver, t: TransferState) -> Said {
-    let told = said.number(b"\nunfinished ", r.received);
+    let told = said.hex(b"\nunfinished ", r.received as u64);
     if t.active == 0 {
         return told;
     }
@@ -113,21 +113,29 @@ fn feed(said: Said, b: &[u8], cut: usize, size: usize) -> Said
     }
 }
 
-pub fn tell(b: &[u8]) {
-    text(b"packets");
-    sizes(b);
-    text(b"\nresponses");
+// The runs: byte by byte and aloud, then cut at each place below `cuts`. Cut at place 0, b is whole.
+fn runs(b: &[u8], cuts: usize) -> u32
+    requires { ⌜ cuts ≤ length (now b) + 1 ⌝ }
+{
     let aloud = Said {
         aloud: true,
         digest: 0,
     };
     let mut said = feed(aloud, b, 0, 1);
     said.aloud = false;
-    let cuts = further(0, PLACES, b.len()) + 1;
     for k in 0..cuts {
         said = feed(said, b, k, b.len());
     }
+    said.digest
+}
+
+pub fn tell(b: &[u8]) {
+    text(b": packets");
+    sizes(b);
+    text(b"\nresponses");
+    let cuts = further(0, PLACES, b.len()) + 1;
+    let digest = runs(b, cuts);
     number(b"\ncuts ", cuts);
-    number(b" digest ", said.digest as usize);
+    number(b" digest ", digest as usize);
     text(b"\n");
 }

@@ -1,4 +1,4 @@
--- `all` is safe and ends: the cases are counted. The buffer keeps its length.
+-- `all` is safe and ends: the rows are counted. The buffer keeps its length.
 use mathlib.Core.Path.{_≡_}
 use Prim.Native.Nat.{_≤_, _-_}
 use lib.ListN.{length}
@@ -7,10 +7,10 @@ use Rattle.vectors.proofs.all.Statement.{statement}
 use Rattle.vectors.proofs.all.Tie as tie
 
 abbrev Inv-loop : tie.InvT-loop
-Inv-loop fd b₀ i₀ t4 t5 t6 b i = (length b ≡ length b₀) × (i ≤ 65536)
+Inv-loop fd b₀ row₀ b row = (length b ≡ length b₀) × (row ≤ 65536)
 
 abbrev μ-loop : tie.MeasureT-loop
-μ-loop fd b₀ i₀ t4 t5 t6 b i = 65536 - i
+μ-loop fd b₀ row₀ b row = 65536 - row
 
 pub all-spec : {M : Type 1} → statement M
 all-spec =
@@ -18,12 +18,6 @@ all-spec =
     (tie.spec
     Inv-loop
     μ-loop
-    (λ c. search needs)
-    (λ c. search needs)
-    (λ c κs. search needs)
-    (λ c. search needs)
-    (λ c κs. search needs)
-    (λ c κs. search needs)
     (λ c. search needs)
     (λ c κs. search needs)
     (λ c. search needs)
