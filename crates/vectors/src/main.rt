@@ -8,7 +8,6 @@
 mod said;
 mod stream;
 
-use packet::word;
 use report::Outcome;
 use said::number;
 use said::text;
@@ -16,7 +15,7 @@ use said::text;
 // The longest case is a packet of 65,542 bytes with another after it.
 const ROOM: usize = 70000;
 
-// More rows than a file has: nothing says that a file ends.
+// More rows than the file has: nothing says that a file ends.
 const ROWS: usize = 65536;
 
 // A tuning report: the line of the checking program.
@@ -42,7 +41,7 @@ fn next(fd: i32, row: usize, b: &mut [u8]) -> bool {
     if io::read_full(fd, &mut head) < 5 {
         return false;
     }
-    let n = word(head[1], head[2]) + 65536 * word(head[3], head[4]);
+    let n = packet::word(head[1], head[2]) + 65536 * packet::word(head[3], head[4]);
     if b.len() < n {
         return false;
     }

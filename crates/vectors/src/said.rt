@@ -20,39 +20,33 @@ pub fn further(at: usize, more: usize, end: usize) -> usize
     if end - at < more { end } else { at + more }
 }
 
-// The largest prime below 2^32.
-const PRIME: u64 = 4294967291;
-
 // What runs say is digits of one number to the base 256. The digest is its remainder by the prime:
-// where one byte differs, the digest does. What is said aloud is also printed.
+// where one byte differs, the digest does. What is said aloud is also printed, in hexadecimal.
 pub struct Said {
     pub aloud: bool,
     pub digest: u32,
 }
 
-fn wide(b: u8) -> u64 {
-    b as u64
-}
+// The largest prime below 2^32.
+const PRIME: u64 = 4294967291;
 
 impl Said {
-    // A number in hexadecimal, after its name.
-    pub fn hex(mut self, name: &[u8], n: u64) -> Said {
+    pub fn hex(mut self, n: u64) -> Said {
         if self.aloud {
-            text(name);
             io::print_hex(STDOUT_FILENO, n, 2);
         }
         self.digest = ((self.digest as u64 * 256 + n % PRIME) % PRIME) as u32;
         self
     }
 
-    // The first n bytes of b.
+    // The first n bytes of b, after their name.
     pub fn bytes(mut self, name: &[u8], b: &[u8], n: usize) -> Said {
         if self.aloud {
             text(name);
         }
         let end = further(0, n, b.len());
         for i in 0..end {
-            self = self.hex(b"", wide(b[i]));
+            self = self.hex(b[i] as u64);
         }
         self
     }

@@ -1,19 +1,15 @@
 // A stream of host bytes to a fresh controller.
 //
-// Printed are the sizes of its packets, the responses, the standard list of the settings at the end,
-// how many bytes of an unfinished packet have come in, and the open transfer. The stream is run byte
-// by byte, whole, and cut in two at each place. The digest of what all runs say tells whether they agree.
+// Printed are the sizes of its packets, the responses, how many bytes of an unfinished packet have
+// come in, the open transfer, and the standard list of the settings at the end. The stream is run byte
+// by byte, whole, and cut in two at each place; the digest of what all runs say tells whether they agree.
 use crate::said::Said;
 use crate::said::further;
 use crate::said::number;
 use crate::said::text;
 use command::Answer;
 use command::Controller;
-use command::Encoded;
-use command::TransferState;
-use packet::Next;
-use packet::Receiver;
-ghost use Prim.Native.Nat.{_+_, _≤_};
+ghost use Prim.Native.Nat.{_≤_};
 ghost use lib.ListN.{length};
 
 // The last place at which a stream is cut. With all, the work would grow with its length's square.
@@ -29,7 +25,7 @@ struct Run {
 fn sizes(b: &[u8]) {
     let mut at: usize = 0;
     for _ in 0..b.len() {
-        let Next::Packet(size) = packet::next_packet(b, at) else {
+        let packet::Next::Packet(size) = packet::next_packet(b, at) else {
             return;
         };
         number(b" ", size);
@@ -66,23 +62,27 @@ fn call(r: Run, b: &[u8], end: usize) -> Run
     }
 }
 
-// The unfinished packet, and the open transfer, whose data stands at the start of the hold.
-fn received(said: Said, r: Receiver, t: TransferState) -> Said {
-    let told = said.hex(b"\nunfinished ", r.received as u64);
+// The data of an open transfer stands at the start of the hold.
+fn transfer(said: Said, t: command::TransferState, r: packet::Receiver) -> Said {
     if t.active == 0 {
-        return told;
+        return said;
     }
     let code = [t.cmd1, t.cmd2];
     let hold = r.hold;
-    told.bytes(b"\ntransfer ", &code, 2)
+    said.bytes(b"\ntransfer ", &code, 2)
         .bytes(b" ", &hold, t.held)
 }
 
 fn finish(said: Said, c: Controller) -> Said {
-    let told = received(said, c.receiver, c.transfer);
+    let unfinished = said.bytes(b"\nunfinished ", b"", 0);
+    let told = transfer(
+        unfinished.hex(c.receiver.received as u64),
+        c.transfer,
+        c.receiver,
+    );
     let mut list = [0u8; 128];
     match command::standard_list(c.settings, &mut list) {
-        Encoded::Length(length) => told.bytes(b"\nlist ", &list, length),
+        command::Encoded::Length(length) => told.bytes(b"\nlist ", &list, length),
         _ => told,
     }
 }
@@ -113,16 +113,15 @@ fn feed(said: Said, b: &[u8], cut: usize, size: usize) -> Said
     }
 }
 
-// The runs: byte by byte and aloud, then cut at each place below `cuts`. Cut at place 0, b is whole.
-fn runs(b: &[u8], cuts: usize) -> u32
-    requires { ⌜ cuts ≤ length (now b) + 1 ⌝ }
-{
+// The runs: byte by byte and aloud, then cut at each place. Cut at place 0, b is whole.
+fn runs(b: &[u8]) -> u32 {
     let aloud = Said {
         aloud: true,
         digest: 0,
     };
     let mut said = feed(aloud, b, 0, 1);
     said.aloud = false;
+    let cuts = further(0, PLACES, b.len()) + 1;
     for k in 0..cuts {
         said = feed(said, b, k, b.len());
     }
@@ -133,9 +132,7 @@ pub fn tell(b: &[u8]) {
     text(b": packets");
     sizes(b);
     text(b"\nresponses");
-    let cuts = further(0, PLACES, b.len()) + 1;
-    let digest = runs(b, cuts);
-    number(b"\ncuts ", cuts);
-    number(b" digest ", digest as usize);
+    let digest = runs(b);
+    number(b"\ndigest ", digest as usize);
     text(b"\n");
 }
