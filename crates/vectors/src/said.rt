@@ -6,7 +6,6 @@ pub fn text(t: &[u8]) {
     io::write_all(STDOUT_FILENO, t);
 }
 
-// A number after its name.
 pub fn number(name: &[u8], n: usize) {
     text(name);
     io::print_decimal(STDOUT_FILENO, n as u64);
@@ -20,15 +19,14 @@ pub fn further(at: usize, more: usize, end: usize) -> usize
     if end - at < more { end } else { at + more }
 }
 
-// What runs say is digits of one number to the base 256. The digest is its remainder by the prime:
-// where one byte differs, the digest does. What is said aloud is also printed, in hexadecimal.
+const PRIME: u64 = 4294967291;
+
+// What runs say is digits of one number to the base 256. The digest is its remainder by the largest
+// prime below 2^32: where one byte differs, so does the digest. What is said aloud is printed too.
 pub struct Said {
     pub aloud: bool,
     pub digest: u32,
 }
-
-// The largest prime below 2^32.
-const PRIME: u64 = 4294967291;
 
 impl Said {
     pub fn hex(mut self, n: u64) -> Said {

@@ -1,8 +1,6 @@
-// A stream of host bytes to a fresh controller.
-//
-// Printed are the sizes of its packets, the responses, how many bytes of an unfinished packet have
-// come in, the open transfer, and the standard list of the settings at the end. The stream is run byte
-// by byte, whole, and cut in two at each place; the digest of what all runs say tells whether they agree.
+// A stream of host bytes to a fresh controller: the sizes of its packets, the responses, how many bytes
+// of an unfinished packet have come in, the open transfer, and the standard list of the end settings.
+// It is run byte by byte, whole, and cut in two at each place; the digest tells whether all agree.
 use crate::said::Said;
 use crate::said::further;
 use crate::said::number;
@@ -75,11 +73,8 @@ fn transfer(said: Said, t: command::TransferState, r: packet::Receiver) -> Said 
 
 fn finish(said: Said, c: Controller) -> Said {
     let unfinished = said.bytes(b"\nunfinished ", b"", 0);
-    let told = transfer(
-        unfinished.hex(c.receiver.received as u64),
-        c.transfer,
-        c.receiver,
-    );
+    let received = unfinished.hex(c.receiver.received as u64);
+    let told = transfer(received, c.transfer, c.receiver);
     let mut list = [0u8; 128];
     match command::standard_list(c.settings, &mut list) {
         command::Encoded::Length(length) => told.bytes(b"\nlist ", &list, length),
@@ -132,7 +127,6 @@ pub fn tell(b: &[u8]) {
     text(b": packets");
     sizes(b);
     text(b"\nresponses");
-    let digest = runs(b);
-    number(b"\ndigest ", digest as usize);
+    number(b"\ndigest ", runs(b) as usize);
     text(b"\n");
 }
