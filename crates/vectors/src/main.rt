@@ -17,14 +17,12 @@ const ROOM: usize = 70000;
 
 const ROWS: usize = 65536;
 
-// A tuning report: the line of the checking program.
-fn report(b: &[u8]) {
-    let c = report::check(b);
-    let trial = c.trial;
+// The line of the checking program.
+fn line(trial: Outcome, score: usize) {
     match trial {
         Outcome::Value(winner) => {
             number(b": accepted trial ", winner);
-            number(b" score ", c.score);
+            number(b" score ", score);
         }
         Outcome::Refused { number: why, place } => {
             number(b": refused ", why as usize);
@@ -32,6 +30,20 @@ fn report(b: &[u8]) {
         }
     }
     text(b"\n");
+}
+
+fn report(b: &[u8]) {
+    let c = report::check(b);
+    let trial = c.trial;
+    line(trial, c.score);
+}
+
+fn case(kind: u8, b: &[u8]) {
+    match kind {
+        b's' => stream::tell(b),
+        b'r' => report(b),
+        _ => text(b" of no known kind\n"),
+    }
 }
 
 // Reads and runs a row; false where there is no whole one.
@@ -46,11 +58,7 @@ fn next(fd: i32, row: usize, b: &mut [u8]) -> bool {
         return false;
     }
     number(b"case ", row);
-    match head[0] {
-        b's' => stream::tell(&b[0..n]),
-        b'r' => report(&b[0..n]),
-        _ => text(b" of no known kind\n"),
-    }
+    case(head[0], &b[0..n]);
     true
 }
 

@@ -13,13 +13,6 @@ ghost use lib.ListN.{length};
 // The last place at which a stream is cut. With all, the work would grow with its length's square.
 const PLACES: usize = 1700;
 
-// How far a run is, and what has been said.
-struct Run {
-    controller: Controller,
-    taken: usize,
-    said: Said,
-}
-
 fn sizes(b: &[u8]) {
     let mut at: usize = 0;
     for _ in 0..b.len() {
@@ -39,25 +32,11 @@ fn taken_by(a: Answer) -> usize {
     }
 }
 
-// One call, which is lent the bytes from the run's place to `end`.
-fn call(r: Run, b: &[u8], end: usize) -> Run
-    requires { ⌜ (r .taken ≤ end) × (end ≤ length (now b)) ⌝ }
-    ensures { λ s. ⌜ (r .taken ≤ s .taken) × (s .taken ≤ end) ⌝ }
-{
-    let at = r.taken;
-    let said = r.said;
-    let mut out = [0u8; 64];
-    let s = command::receive(r.controller, &b[at..end], &mut out);
-    let controller = s.controller;
-    let answer = s.answer;
-    Run {
-        controller: controller,
-        taken: further(at, taken_by(answer), end),
-        said: match answer {
-            Answer::Answered { taken: _, length } => said.bytes(b" ", &out, length),
-            _ => said,
-        },
-    }
+fn respond(said: Said, a: Answer, out: &[u8]) -> Said {
+    let Answer::Answered { taken: _, length } = a else {
+        return said;
+    };
+    said.bytes(b" ", out, length)
 }
 
 // The data of an open transfer stands at the start of the hold.
@@ -91,20 +70,23 @@ fn piece_end(at: usize, cut: usize, size: usize, n: usize) -> usize
 }
 
 // A run over b in such pieces. The last call takes nothing: at the end of b it is lent no bytes.
-fn feed(said: Said, b: &[u8], cut: usize, size: usize) -> Said
+fn feed(mut said: Said, b: &[u8], cut: usize, size: usize) -> Said
     requires { ⌜ cut ≤ length (now b) ⌝ }
 {
-    let mut r = Run {
-        controller: Controller::fresh(),
-        taken: 0,
-        said: said,
-    };
+    let mut c = Controller::fresh();
+    let mut at: usize = 0;
     loop {
-        let at = r.taken;
-        r = call(r, b, piece_end(at, cut, size, b.len()));
-        if r.taken == at {
-            return finish(r.said, r.controller);
+        let mut out = [0u8; 64];
+        let end = piece_end(at, cut, size, b.len());
+        let s = command::receive(c, &b[at..end], &mut out);
+        c = s.controller;
+        let answer = s.answer;
+        said = respond(said, answer, &out);
+        let next = further(at, taken_by(answer), end);
+        if next == at {
+            return finish(said, c);
         }
+        at = next;
     }
 }
 

@@ -6,10 +6,10 @@ use Rattle.vectors.proofs.stream.feed.Statement.{statement}
 use Rattle.vectors.proofs.stream.feed.Tie as tie
 
 abbrev Inv-loop : tie.InvT-loop
-Inv-loop b cut size r₀ r = r .taken ≤ length b
+Inv-loop said₀ b cut size c₀ at₀ said c at = at ≤ length b
 
 abbrev μ-loop : tie.MeasureT-loop
-μ-loop b cut size r₀ r = length b - r .taken
+μ-loop said₀ b cut size c₀ at₀ said c at = length b - at
 
 pub feed-spec : {M : Type 1} → statement M
 feed-spec =
@@ -19,6 +19,14 @@ feed-spec =
     μ-loop
     (λ c κs. search needs)
     (λ c. search needs)
+    (λ c κs. search needs)
+    (λ c. search needs)
+    (λ c. search needs)
+    (λ c. search needs)
+    (λ c. search needs)
+    (λ c κs. search needs)
+    (λ c. search needs)
+    (λ c κs. search needs)
     (λ c κs. search needs)
     (λ c κs. search needs)
     (λ c κs. search needs)
