@@ -1,106 +1,74 @@
-// Holds the command layer to answers that were worked out without it.
-//
-// The file `packets.bin` has packets with what each draws, and `streams.bin` streams of bytes with
-// what each leads to, each in rows. `scripts/vectors-data` makes both, and the text that this program must write,
-// from the vectors alone. A case that differs gets a line with its number, counted from 1, and each
-// file a line with its counts. The proofs of this crate say only that the program is safe and ends.
-mod difference;
-mod outcome;
-mod packets;
-mod row;
-mod run;
-mod streams;
+// Runs the stored cases and prints what the library answers; `rt` holds that to the file `stdout`.
+// The file `01` has the cases of document 01: 700 packets, each after some bytes sent before, 400
+// streams of host bytes, 49 streams for the packet layer, and 507 reports. A case is a row: its kind
+// in a byte, its length in four, least significant first, and its bytes. `scripts/vectors-data`
+// makes the cases and the expected text from the vectors and document 01, and nothing of it comes
+// from this program. What is proved of the program is that it is safe and ends.
+mod said;
+mod stream;
 
-use outcome::Outcome;
-use saying::count;
-use saying::text;
-ghost use Prim.Native.Nat.{_≤_};
+use report::Outcome;
+use said::further;
+use said::number;
+use said::text;
 
-// What a row of a file is.
-enum Kind {
-    Packet,
-    Stream,
-}
+// Room for the longest case, and more rows than the file has: nothing says that a file ends.
+const ROOM: usize = 70000;
 
-// What the rows of a file came to: how many there are, how many of them differ, and how many cuts
-// agree.
-struct Tally {
-    rows: usize,
-    differ: usize,
-    cuts: usize,
-}
-
-// How many rows are read, at most; more are reported. The loop over them has to end, and nothing
-// says that a file does.
 const ROWS: usize = 65536;
 
-fn one_row(kind: Kind, number: usize, row: &[u8]) -> Outcome
-    ensures { λ r. ⌜ (r .differ ≤ 1) × (r .cuts ≤ 1701) ⌝ }
-{
-    match kind {
-        Kind::Packet => packets::try_row(number, row),
-        Kind::Stream => streams::try_row(number, row),
-    }
-}
-
-// The rows of a file, one after the other.
-fn all_rows(kind: Kind, fd: i32, b: &mut [u8]) -> Tally
-    ensures { λ r. ⌜ r .differ ≤ r .rows ⌝ }
-{
-    let mut rows: usize = 0;
-    let mut differ: usize = 0;
-    let mut cuts: usize = 0;
-    while rows < ROWS {
-        let row = rows::next(fd, rows + 1, b);
-        if !row.found {
-            return Tally { rows, differ, cuts };
+// The line of the checking program.
+fn line(trial: Outcome, score: usize) {
+    match trial {
+        Outcome::Value(winner) => {
+            number(b": accepted trial ", winner);
+            number(b" score ", score);
         }
-        rows += 1;
-        let n = row.length;
-        let o = one_row(kind, rows, &b[0..n]);
-        differ += o.differ;
-        cuts += o.cuts;
+        Outcome::Refused { number: why, place } => {
+            number(b": refused ", why as usize);
+            number(b" at ", place);
+        }
     }
-    text(b"no more rows are read\n");
-    Tally { rows, differ, cuts }
+    text(b"\n");
 }
 
-// A whole file. Where it cannot be opened no row is run, and the counts tell.
-fn file(kind: Kind, name: &[u8]) -> Tally
-    ensures { λ r. ⌜ r .differ ≤ r .rows ⌝ }
-{
-    let fd = os::open_read(name);
-    if fd < 0 {
-        os::fail(name);
-        return Tally {
-            rows: 0,
-            differ: 0,
-            cuts: 0,
-        };
-    }
-    // The longest row has some 4,000 bytes.
-    let mut b = [0u8; 16384];
-    let t = all_rows(kind, fd, &mut b);
-    libc::close(fd);
-    t
+fn report(b: &[u8]) {
+    let c = report::check(b);
+    let trial = c.trial;
+    line(trial, c.score);
 }
 
-// How many agree and how many differ.
-fn tell(name: &[u8], t: Tally)
-    requires { ⌜ t .differ ≤ t .rows ⌝ }
-{
-    text(name);
-    count(b": ", t.rows - t.differ);
-    count(b" agree, ", t.differ);
-    text(b" differ");
+fn case(kind: u8, b: &[u8]) {
+    match kind {
+        b's' => stream::tell(b),
+        b'r' => report(b),
+        _ => text(b" of no known kind\n"),
+    }
+}
+
+// Reads and runs a row; false where there is no whole one.
+fn next(fd: i32, row: usize, b: &mut [u8]) -> bool {
+    let mut head = [0u8; 5];
+    if io::read_full(fd, &mut head) < 5 {
+        return false;
+    }
+    let length = packet::word(head[1], head[2]) + 65536 * packet::word(head[3], head[4]);
+    let n = further(0, length, b.len());
+    if io::read_full(fd, &mut b[0..n]) < n {
+        return false;
+    }
+    number(b"case ", row);
+    case(head[0], &b[0..n]);
+    true
 }
 
 fn main() {
-    let p = file(Kind::Packet, b"packets.bin");
-    tell(b"packets", p);
-    text(b"\n");
-    let s = file(Kind::Stream, b"streams.bin");
-    tell(b"streams", s);
-    count(b", ", s.cuts);
-    text(b" cuts\n");
+    let fd = os::open_read(b"01");
+    let mut b = [0u8; ROOM];
+    for row in 1..ROWS {
+        if !next(fd, row, &mut b) {
+            break;
+        }
+    }
+    libc::close(fd);
 }

@@ -1,0 +1,114 @@
+// A stream of host bytes to a fresh controller: the sizes of its packets, the responses, how many bytes
+// of an unfinished packet have come in, the open transfer, and the standard list of the end settings.
+// It is run byte by byte, whole, and cut in two at each place; the digest tells whether all agree.
+use crate::said::Said;
+use crate::said::further;
+use crate::said::number;
+use crate::said::text;
+use command::Answer;
+use command::Controller;
+ghost use Prim.Native.Nat.{_≤_};
+ghost use lib.ListN.{length};
+
+// The last place at which a stream is cut. With all, the work would grow with its length's square.
+const PLACES: usize = 1700;
+
+fn sizes(b: &[u8]) {
+    let mut at: usize = 0;
+    for _ in 0..b.len() {
+        let packet::Next::Packet(size) = packet::next_packet(b, at) else {
+            return;
+        };
+        number(b" ", size);
+        at = std::num::wrapping_add_usize(at, size);
+    }
+}
+
+fn taken_by(a: Answer) -> usize {
+    match a {
+        Answer::Waiting(taken) => taken,
+        Answer::Answered { taken, length: _ } => taken,
+        _ => 0,
+    }
+}
+
+fn respond(said: Said, a: Answer, out: &[u8]) -> Said {
+    let Answer::Answered { taken: _, length } = a else {
+        return said;
+    };
+    said.bytes(b" ", out, length)
+}
+
+// The data of an open transfer stands at the start of the hold.
+fn transfer(said: Said, t: command::TransferState, r: packet::Receiver) -> Said {
+    if t.active == 0 {
+        return said;
+    }
+    let code = [t.cmd1, t.cmd2];
+    let hold = r.hold;
+    said.bytes(b"\ntransfer ", &code, 2)
+        .bytes(b" ", &hold, t.held)
+}
+
+fn finish(said: Said, c: Controller) -> Said {
+    let unfinished = said.bytes(b"\nunfinished ", b"", 0);
+    let received = unfinished.hex(c.receiver.received as u64);
+    let told = transfer(received, c.transfer, c.receiver);
+    let mut list = [0u8; 128];
+    match command::standard_list(c.settings, &mut list) {
+        command::Encoded::Length(length) => told.bytes(b"\nlist ", &list, length),
+        _ => told,
+    }
+}
+
+// Where a piece of n bytes ends that are cut after the first `cut`, and from there on by this size.
+fn piece_end(at: usize, cut: usize, size: usize, n: usize) -> usize
+    requires { ⌜ (at ≤ n) × (cut ≤ n) ⌝ }
+    ensures { λ r. ⌜ (at ≤ r) × (r ≤ n) ⌝ }
+{
+    if at < cut { cut } else { further(at, size, n) }
+}
+
+// A run over b in such pieces. The last call takes nothing: at the end of b it is lent no bytes.
+fn feed(mut said: Said, b: &[u8], cut: usize, size: usize) -> Said
+    requires { ⌜ cut ≤ length (now b) ⌝ }
+{
+    let mut c = Controller::fresh();
+    let mut at: usize = 0;
+    loop {
+        let mut out = [0u8; 64];
+        let end = piece_end(at, cut, size, b.len());
+        let s = command::receive(c, &b[at..end], &mut out);
+        c = s.controller;
+        let answer = s.answer;
+        said = respond(said, answer, &out);
+        let next = further(at, taken_by(answer), end);
+        if next == at {
+            return finish(said, c);
+        }
+        at = next;
+    }
+}
+
+// The runs: byte by byte and aloud, then cut at each place. Cut at place 0, b is whole.
+fn runs(b: &[u8]) -> u32 {
+    let aloud = Said {
+        aloud: true,
+        digest: 0,
+    };
+    let mut said = feed(aloud, b, 0, 1);
+    said.aloud = false;
+    let cuts = further(0, PLACES, b.len()) + 1;
+    for k in 0..cuts {
+        said = feed(said, b, k, b.len());
+    }
+    said.digest
+}
+
+pub fn tell(b: &[u8]) {
+    text(b": packets");
+    sizes(b);
+    text(b"\nresponses");
+    number(b"\ndigest ", runs(b) as usize);
+    text(b"\n");
+}
