@@ -4,7 +4,7 @@ use Rattle.packet.specs.Number.{valueOf, bytesOf}
 use Rattle.packet.specs.Packet.{payload, sum, checksum, rightSum, sealed, packetOf}
 use Rattle.packet.specs.Stream.{size, hasPacket, packetsIn, packets, bytesIn, rest}
 use Rattle.command.specs.Table.{find, commandOf, sizeOf}
-use Rattle.command.specs.Rules.{oneOf, listed, allowed, blocked}
+use Rattle.command.specs.Rules.{blocked}
 use Rattle.command.specs.Settings.{factory, valuesAfter, store}
 use Rattle.command.specs.Data.{splitAll, joinAll}
 use Rattle.command.specs.Value.{dataOf}
@@ -17,5 +17,5 @@ use Rattle.report.specs.Report.{readTrials, readHead, readEnd, readRepor
 use Rattle.report.specs.Examples.{joinedAll, lastDraws, isYes, isNo, holds, hold, examples}
 
 pub examples-hold : T (hold examples)
-unfolding valueOf bytesOf payload sum checksum rightSum sealed packetOf size hasPacket packetsIn packets bytesIn rest find commandOf sizeOf oneOf listed allowed factory blocked valuesAfter store splitAll joinAll dataOf wrongCommand tooLong wrongOrder faultsOf faults anyFault listIf codesOf judgeWrite judgeRead judgeData judge response judged next judgements responses after play allAcknowledged clean sameList joinedAll lastDraws _>>=_ need reading readTrials readHead readEnd readReport scoreAt endFrom noneBelow earlierAbove firstLowest every sameSettings checkReport verdictOf verdict isYes isNo holds hold
+unfolding valueOf bytesOf payload sum checksum rightSum sealed packetOf size hasPacket packetsIn packets bytesIn rest find commandOf sizeOf factory blocked valuesAfter store splitAll joinAll dataOf wrongCommand tooLong wrongOrder faultsOf faults anyFault listIf codesOf judgeWrite judgeRead judgeData judge response judged next judgements responses after play allAcknowledged clean sameList joinedAll lastDraws _>>=_ need reading readTrials readHead readEnd readReport scoreAt endFrom noneBelow earlierAbove firstLowest every sameSettings checkReport verdictOf verdict isYes isNo holds hold
 examples-hold = tt
