@@ -26,15 +26,15 @@ pub(crate) struct Best {
     pub settings: Settings,
 }
 
-// A trial that is due and not there: no trial is the best.
-fn missing(why: Outcome) -> Best
+// A trial that is due and not there: none is the best.
+fn missing(why: Outcome, settings: Settings) -> Best
     ensures { λ b. ⌜ b .next ≡ why ⌝ }
 {
     Best {
         next: why,
         trial: 0,
         score: 0,
-        settings: Settings::factory(),
+        settings: settings,
     }
 }
 
@@ -53,7 +53,7 @@ pub(crate) fn best_of(r: &[u8], count: usize) -> Best
     while i < count {
         let due = record_at(r, at, TRIAL);
         let Outcome::Value(n) = due else {
-            return missing(due);
+            return missing(due, start);
         };
         let next = at + HEADER + n;
         let score = long_at(r, at + HEADER);

@@ -15,10 +15,10 @@ use Rattle.report.proofs.trials.best_of.Statement.{statement}
 use Rattle.report.proofs.trials.best_of.Tie as tie
 
 abbrev Inv-loop : tie.InvT-loop
-Inv-loop r count last₀ best₀ at₀ trial₀ lowest₀ i₀ last best at trial lowest i = (i ≤ count) × Walked r i at last trial lowest best
+Inv-loop r count start last₀ best₀ at₀ trial₀ lowest₀ i₀ last best at trial lowest i = (i ≤ count) × Walked r i at last trial lowest best
 
 abbrev μ-loop : tie.MeasureT-loop
-μ-loop r count last₀ best₀ at₀ trial₀ lowest₀ i₀ last best at trial lowest i = count - i
+μ-loop r count start last₀ best₀ at₀ trial₀ lowest₀ i₀ last best at trial lowest i = count - i
 
 abbrev reportIn : tie.At-loop Inv-loop μ-loop → List ℕ
 reportIn l = now (l .before .before .before .args .r)
