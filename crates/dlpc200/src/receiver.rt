@@ -4,8 +4,7 @@ ghost use mathlib.Core.Bool.{cond};
 ghost use mathlib.Core.Path.{_≡_};
 ghost use Prim.Native.Nat.{_+_, _%_};
 ghost use lib.Dec.{ltb};
-ghost use Rattle.dlpc200.specs.Device.{packetInRule};
-ghost use Rattle.dlpc200.specs.Receiver.{receiving};
+ghost use Rattle.dlpc200.specs.Receiver.{packetInRule, receiving};
 
 // How many bytes of a packet are held: the header and the ID.
 const HELD_SIZE: usize = 8;
