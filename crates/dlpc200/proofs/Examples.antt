@@ -7,12 +7,12 @@ use Rattle.packet.specs.Calls.{joined}
 use lib.Count.{onesIn, ones}
 use Rattle.dlpc200.specs.Packet.{checksum, rightSum, packetOf}
 use Rattle.dlpc200.specs.Table.{find, commandOf}
-use Rattle.dlpc200.specs.Status.{anyFault, data0, data1, faultBits}
+use Rattle.dlpc200.specs.Status.{faultBits}
 use Rattle.dlpc200.specs.Judgement.{commandIn, wrongCmd1, wrongSize, faultsOf, judge}
 use Rattle.dlpc200.specs.Response.{response}
 use Rattle.dlpc200.specs.Playing.{judged, answerTo, next, responses, after}
 use Rattle.dlpc200.specs.Examples.{sameList, writeOf, answers, holds, hold, examples}
 
 pub examples-hold : T (hold examples)
-unfolding bytesOf payload sum size hasPacket packetsIn packets onesIn ones checksum rightSum packetOf find commandOf data0 data1 faultBits commandIn wrongCmd1 wrongSize faultsOf anyFault judge response judged answerTo next responses after sameList joined writeOf answers holds hold examples
+unfolding bytesOf payload sum size hasPacket packetsIn packets onesIn ones checksum rightSum packetOf find commandOf faultBits commandIn wrongCmd1 wrongSize faultsOf judge response judged answerTo next responses after sameList joined writeOf answers holds hold examples
 examples-hold = tt

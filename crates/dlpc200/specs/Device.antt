@@ -1,10 +1,6 @@
 -- The device: the states and the receiver, and when it is in rule.
-use Prim.Native.Nat.{ℕ, _+_}
 use mathlib.Core.Bool.{Bool, _&&_}
-use mathlib.Core.List.{List}
-use lib.Dec.{ltb}
-use Rattle.packet.specs.Packet.{payloadLength}
-use Rattle.dlpc200.specs.Receiver.{fresh}
+use Rattle.dlpc200.specs.Receiver.{fresh, packetInRule}
 use Rattle.dlpc200.specs.States.{inRange}
 use Rattle.dlpc200.specs.declared.states.States.{States}
 use Rattle.dlpc200.specs.declared.device.Device.{Device}
@@ -13,9 +9,6 @@ use Rattle.dlpc200.specs.declared.device.Device.{Device}
 abbrev pub deviceWith : States → Device
 deviceWith s = record { states = s; receiver = fresh }
 
--- Refusal 3: "a state out of range or a half-received packet that has all its bytes".
-abbrev pub packetInRule : List ℕ → ℕ → Bool
-packetInRule header received = ltb received (7 + payloadLength header)
-
+-- Refusal 3: "a state out of range or a half-received packet that has all its bytes"
 abbrev pub inRule : Device → Bool
 inRule d = inRange (d .states) && packetInRule (d .receiver .header) (d .receiver .received)

@@ -1,10 +1,10 @@
 -- The receiver: what it is after some bytes, and when a packet is complete. A receiver of any field values is answered.
 use Prim.Native.Nat.{ℕ, _+_, _-_, _%_}
-use mathlib.Core.Bool.{cond, _&&_}
+use mathlib.Core.Bool.{Bool, cond, _&&_}
 use mathlib.Core.List.{List}
-use lib.Dec.{eqb}
+use lib.Dec.{eqb, ltb}
 use lib.ListN.{getD, take, drop, replicate}
-use Rattle.packet.specs.Packet.{sum}
+use Rattle.packet.specs.Packet.{payloadLength, sum}
 use Rattle.packet.specs.Receiver.{Received as PacketReceived, with as packetWith, receiving as packetReceiving}
 use Rattle.packet.specs.declared.receiver.Receiver.{Receiver as PacketReceiver}
 use Rattle.dlpc200.specs.declared.receiver.Receiver.{Receiver}
@@ -51,3 +51,7 @@ taking r b t =
 -- one call: it takes bytes until the input ends or one packet is complete
 unfoldable pub receiving : Receiver → List ℕ → Received
 receiving r b = taking r b (packetReceiving (framedBy r) 0 b)
+
+-- a packet that is half received: it does not have all its bytes
+abbrev pub packetInRule : List ℕ → ℕ → Bool
+packetInRule header received = ltb received (7 + payloadLength header)

@@ -1,4 +1,12 @@
-// The values of CMD1, CMD2 and CMD4 (section 6, "Definition of CMD1" and so on).
+// The layout of a packet and the values of CMD1, CMD2 and CMD4 (section 6).
+
+// CMD1 to CMD4 and the length field.
+pub(crate) const HEADER_SIZE: usize = 6;
+
+// The data of a packet: its ID, Data[0] and Data[1], and nothing else for the commands here.
+pub(crate) const ID_SIZE: usize = 2;
+
+pub(crate) const DATA_LIMIT: usize = 504;
 
 // CMD1 of what the host sends.
 pub(crate) const WRITE: u8 = 0x02;

@@ -1,5 +1,7 @@
 // How a complete packet is judged, and what a judgement changes.
+use crate::header::DATA_LIMIT;
 use crate::header::EXTENDED;
+use crate::header::ID_SIZE;
 use crate::header::ONLY;
 use crate::header::READ;
 use crate::header::WRITE;
@@ -11,11 +13,7 @@ ghost use mathlib.Core.Path.{_≡_};
 ghost use Rattle.packet.specs.Packet.{payloadLength};
 ghost use Rattle.dlpc200.specs.Judgement.{arrivedBy, arrivedOf, commandIn, faultsOf, judge as judgeOf, statesAfter, wrongCmd1, wrongSize};
 
-// A packet of a command has its ID as data, and nothing else.
-const ID_SIZE: usize = 2;
-
-const DATA_LIMIT: usize = 504;
-
+// What a complete packet comes to.
 pub(crate) enum Judgement {
     // The packet failed, with these faults; with none of them its command is unknown.
     Failed(Faults),
@@ -87,10 +85,10 @@ pub(crate) fn judge(header: [u8; 6], id: [u8; 2], right: bool) -> Judgement
 pub(crate) fn states_after(s: States, j: Judgement) -> States
     ensures { λ r. ⌜ r ≡ statesAfter s j ⌝ }
 {
-    let mut t = s;
     let Judgement::Done(c) = j else {
-        return t;
+        return s;
     };
-    t.park = c.park(t.park);
+    let mut t = s;
+    t.park = c.park(s.park);
     t
 }

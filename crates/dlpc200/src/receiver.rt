@@ -1,10 +1,13 @@
 // The receiver: takes one packet from a stream of bytes, byte by byte as the stream arrives.
+use crate::header::HEADER_SIZE;
 ghost use mathlib.Core.Bool.{cond};
 ghost use mathlib.Core.Path.{_≡_};
 ghost use Prim.Native.Nat.{_+_, _%_};
 ghost use lib.Dec.{ltb};
-ghost use Rattle.dlpc200.specs.Device.{packetInRule};
-ghost use Rattle.dlpc200.specs.Receiver.{receiving};
+ghost use Rattle.dlpc200.specs.Receiver.{packetInRule, receiving};
+
+// How many bytes of a packet are held: the header and the ID.
+const HELD_SIZE: usize = 8;
 
 // What has come in of the current packet. Of its data only the first two bytes are held: they are
 // the command's ID, and no command here has more. Between two packets `received` and `sum` are 0,
@@ -41,7 +44,7 @@ fn summed(sum: u8, received: usize, b: u8) -> u8
 
 impl Receiver {
     // Between two packets.
-    pub const FRESH: Receiver = Receiver {
+    pub(crate) const FRESH: Receiver = Receiver {
         header: [0; 6],
         id: [0; 2],
         sum: 0,
@@ -59,7 +62,7 @@ impl Receiver {
             i += 1;
             let length = packet::word(self.header[4], self.header[5]);
             let received = self.received;
-            if 6 + length <= received {
+            if HEADER_SIZE + length <= received {
                 let right = b == self.sum;
                 self.received = 0;
                 self.sum = 0;
@@ -72,10 +75,10 @@ impl Receiver {
             }
             self.received = received + 1;
             self.sum = summed(self.sum, received, b);
-            if received < 6 {
+            if received < HEADER_SIZE {
                 self.header[received] = b;
-            } else if received < 8 {
-                self.id[received - 6] = b;
+            } else if received < HELD_SIZE {
+                self.id[received - HEADER_SIZE] = b;
             }
         }
         Received {

@@ -15,14 +15,14 @@ use Rattle.packet.specs.Calls.{Call, servedOne, served, joined}
 use Rattle.packet.proofs.Cases.{bool-cases, and-left, and-right, and-both}
 use Rattle.packet.proofs.ReceiverLaws.{missing-least}
 use Rattle.packet.proofs.Calls.{Streaming, shifted, in-pieces}
-use Rattle.dlpc200.specs.Receiver.{framedBy, with, taking, receiving}
+use Rattle.dlpc200.specs.Receiver.{framedBy, with, taking, receiving, packetInRule}
 use Rattle.dlpc200.specs.declared.receiver.Received.{Received}
 use Rattle.dlpc200.proofs.receiver.Laws.{Made, made-with, made-completed, received-none, after, cut, behind, waits, completes, no-bytes}
 use Rattle.dlpc200.specs.States.{inRange}
 use Rattle.dlpc200.specs.declared.states.States.{States}
 use Rattle.dlpc200.proofs.judgement.Laws.{in-range-kept}
 use Rattle.dlpc200.specs.Endpoint.{Outcome, Refuses, Waits, Answers, judgedIn, responseIn, After, refused, waiting, answered, ended, receiveCall}
-use Rattle.dlpc200.specs.Device.{packetInRule, inRule}
+use Rattle.dlpc200.specs.Device.{inRule}
 use Rattle.dlpc200.specs.declared.device.Device.{Device}
 
 -- A refusal takes nothing, and leaves device and output: 1, whatever the device,
@@ -59,17 +59,14 @@ pub record Ready (d : Device) : Type 0 where
   pub made : Made (d .receiver)
 
 range-of : (d : Device) → inRule d ≡ true → inRange (d .states) ≡ true
-unfolding inRule
 range-of d h = and-left (inRange (d .states)) (packetInRule (d .receiver .header) (d .receiver .received)) h
 
 unfinished : (d : Device) → inRule d ≡ true → d .receiver .received < 7 + payloadLength (d .receiver .header)
-unfolding inRule packetInRule
 unfinished d h =
     ltb-true (d .receiver .received) (7 + payloadLength (d .receiver .header))
     (and-right (inRange (d .states)) (ltb (d .receiver .received) (7 + payloadLength (d .receiver .header))) h)
 
 pub rule-by : (d : Device) → inRange (d .states) ≡ true → d .receiver .received < 7 + payloadLength (d .receiver .header) → inRule d ≡ true
-unfolding inRule packetInRule
 rule-by d h l =
     and-both (inRange (d .states)) (ltb (d .receiver .received) (7 + payloadLength (d .receiver .header))) h
     (lt-ltb (d .receiver .received) (7 + payloadLength (d .receiver .header)) l)

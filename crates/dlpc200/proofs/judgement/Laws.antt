@@ -50,7 +50,6 @@ pub record Faultless (f : Faults) : Type 0 where
   pub size : f .size ≡ false
 
 pub none-hold : (f : Faults) → anyFault f ≡ false → Faultless f
-unfolding anyFault
 none-hold f h =
     let d = or-left (f .checksum || f .cmd1 || f .cmd2 || f .cmd4) (f .size) h in
     let c = or-left (f .checksum || f .cmd1 || f .cmd2) (f .cmd4) d in
@@ -109,7 +108,7 @@ unfolding wrongCmd1
 cmd1-fits = each (λ c. wrongCmd1 (Known c) (cmd1For c) ≡ false) (refl, refl, refl, refl, refl, refl, refl)
 
 pub carried-out : (p : Arrived) (c : Command) → CarriedOut p c → judge p ≡ Done c
-unfolding judge anyFault faultsOf
+unfolding judge faultsOf
 carried-out p c h = rw (h .command, h .right, h .cmd1, h .cmd2, h .cmd4, h .size, cmd1-fits c) (unfold wrongSize in refl)
 
 -- and fails otherwise: with its faults if it has one, and with none of their bits if its command alone is unknown.
@@ -148,7 +147,6 @@ cmd3-not-judged a b c c′ q = rw (six (getD q 1 0 + 256 * getD q 2 0))
 
 -- An unknown command by itself sets bit 6 alone.
 pub bit-6-alone : (data0 noFaults ≡ 0x40) × (data1 noFaults ≡ 0)
-unfolding data0 data1
 bit-6-alone = (refl, refl)
 
 -- In range stays in range.
@@ -157,7 +155,6 @@ park-bit : (c : Command) (v : ℕ) → leb v 1 ≡ true → leb (parkAfter c v) 
 park-bit c v h = each (λ c. leb (parkAfter c v) 1 ≡ true) (refl, refl, h, h, h, h, h) c
 
 park-range : (s : States) → inRange s ≡ true → leb (s .park) 1 ≡ true
-unfolding inRange
 park-range s h =
     let a = leb (s .park) 1 in
     let b = leb (s .sequence) 1 in

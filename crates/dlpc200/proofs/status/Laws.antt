@@ -43,5 +43,5 @@ ones1 true = refl
 ones1 false = refl
 
 pub faults-counted : (f : Faults) → faultBits (data0 f) (data1 f) ≡ faultsHeld f
-unfolding faultBits data0 data1 faultsHeld
+unfolding faultBits faultsHeld
 faults-counted f = ap₂ _+_ (ones0 (f .checksum) (f .cmd1) (f .cmd2) (f .cmd4)) (ones1 (f .size))
