@@ -1,6 +1,6 @@
 // Runs the stored cases and prints what the library answers; `rt` holds that to the file `stdout`.
 // The file `01` has the cases of document 01: 700 packets, each after some bytes sent before, 400
-// streams of host bytes, 49 streams for the packet layer, and 507 reports. A case is a row: its kind
+// streams of host bytes, 51 streams for the packet layer, and 507 reports. A case is a row: its kind
 // in a byte, its length in four, least significant first, and its bytes. `scripts/vectors-data`
 // makes the cases and the expected text from the vectors and document 01, and nothing of it comes
 // from this program. What is proved of the program is that it is safe and ends.
