@@ -10,15 +10,8 @@ unfolding store valuesAfter
 stored-spec =
     tie.close
     (tie.spec
-    (λ c. search needs)
-    (λ c. search needs)
-    (λ c. search needs)
-    (λ c. search needs)
-    (λ c. search needs)
-    (λ c. search needs)
-    (λ c. search needs)
-    (λ c. search needs)
-    (λ c. search needs)
+    (λ c. search needs) (λ c. search needs) (λ c. search needs) (λ c. search needs) (λ c. search needs)
+    (λ c. search needs) (λ c. search needs) (λ c. search needs) (λ c. search needs)
     (λ c. let g = c .before .before .v .given in rw (g .1, ne-eqb (g .0 .0) 4 (c .if1 .taken)))
     (λ c. let g = c .before .before .v .given in rw (g .1, eq-eqb (g .0 .0) 4 (c .if1 .left)))
     (λ c. rw (c .before .v2 .given .1))

@@ -7,8 +7,5 @@ use Rattle.command.proofs.value.colour_data.Tie as tie
 pub colour-data-spec : {M : Type 1} → statement M
 colour-data-spec =
     tie.close (tie.spec
-    (λ c κs. search needs)
-    (λ c κs. search needs)
-    (λ c κs. search needs)
-    (λ c κs. search needs)
+    (λ c κs. search needs) (λ c κs. search needs) (λ c κs. search needs) (λ c κs. search needs)
     (λ c. record { bytes = cc; room = omega arith }))

@@ -7,7 +7,5 @@ use Rattle.command.proofs.value.current_data.Tie as tie
 pub current-data-spec : {M : Type 1} → statement M
 current-data-spec =
     tie.close (tie.spec
-    (λ c κs. search needs)
-    (λ c κs. search needs)
-    (λ c κs. search needs)
+    (λ c κs. search needs) (λ c κs. search needs) (λ c κs. search needs)
     (λ c. record { bytes = cc; room = omega arith }))

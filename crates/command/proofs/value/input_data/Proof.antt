@@ -7,10 +7,6 @@ use Rattle.command.proofs.value.input_data.Tie as tie
 pub input-data-spec : {M : Type 1} → statement M
 input-data-spec =
     tie.close (tie.spec
-    (λ c κs. search needs)
-    (λ c κs. search needs)
-    (λ c κs. search needs)
-    (λ c κs. search needs)
-    (λ c κs. search needs)
+    (λ c κs. search needs) (λ c κs. search needs) (λ c κs. search needs) (λ c κs. search needs) (λ c κs. search needs)
     (λ c κs. search needs)
     (λ c. record { bytes = cc; room = omega arith }))

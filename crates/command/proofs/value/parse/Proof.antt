@@ -26,7 +26,6 @@ returns-2 c =
 pub parse-spec : {M : Type 1} → statement M
 parse-spec =
     tie.close (tie.spec
-    (λ c κs. search needs)
-    returns
+    (λ c κs. search needs) returns
     (λ c κs. c .if1 .left ∙ c .before .size .ensures)
     returns-2)

@@ -7,10 +7,7 @@ pub as-reply-spec : {M : Type 1} → statement M
 as-reply-spec =
     tie.close
     (tie.spec
-    (λ c. search needs)
-    (λ c. search needs)
-    (λ c. search needs)
-    (λ c. search needs)
+    (λ c. search needs) (λ c. search needs) (λ c. search needs) (λ c. search needs)
     (λ c. rw (c .before .a .given .1))
     (λ c. rw (c .before .a2 .given .1))
     (λ c. rw (c .enum-told .given .1))

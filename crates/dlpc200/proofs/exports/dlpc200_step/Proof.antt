@@ -12,7 +12,4 @@ returns c = let e = c .before .before .before .before .receive .ensures in
 pub dlpc200-step-spec : {M : Type 1} → statement M
 dlpc200-step-spec =
     tie.close (tie.spec
-    (λ c κs. search needs)
-    (λ c κs. search needs)
-    (λ c. search needs)
-    returns)
+    (λ c κs. search needs) (λ c κs. search needs) (λ c. search needs) returns)

@@ -10,12 +10,7 @@ unfolding commandIn
 command-in-spec =
     tie.close
     (tie.spec
-    (λ c. search needs)
-    (λ c. search needs)
-    (λ c κs. search needs)
+    (λ c. search needs) (λ c. search needs) (λ c κs. search needs)
     (λ c. rw (← c .before .word .ensures .0, lt-ltb _ _ (c .if1 .taken)))
-    (λ c. search needs)
-    (λ c. search needs)
-    (λ c κs. search needs)
-    (λ c κs. search needs)
+    (λ c. search needs) (λ c. search needs) (λ c κs. search needs) (λ c κs. search needs)
     (λ c. let i = c .before .before in rw (c .find .ensures, c .before .word2 .ensures .0, ← i .before .word .ensures .0, le-ltb _ _ (i .if1 .left))))

@@ -23,11 +23,6 @@ unfolding judge
 judge-spec =
     tie.close
     (tie.spec
-    (λ c κs. search needs)
-    (λ c κs. search needs)
-    (λ c κs. search needs)
+    (λ c κs. search needs) (λ c κs. search needs) (λ c κs. search needs)
     (λ c. let f = c .before .before in rw (← f .before .command-in .ensures, ← f .faults-in .ensures, ← c .before .any .ensures, c .if1 .taken))
-    (λ c. search needs)
-    (λ c. search needs)
-    returns-2
-    returns-3)
+    (λ c. search needs) (λ c. search needs) returns-2 returns-3)

@@ -8,8 +8,7 @@ pub wrong-cmd1-spec : {M : Type 1} → statement M
 unfolding wrongCmd1
 wrong-cmd1-spec =
     tie.close (tie.spec
-    (λ c. search needs)
-    (λ c. search needs)
+    (λ c. search needs) (λ c. search needs)
     (λ c. rw (c .enum-told .given .1))
     (λ c κs. search needs)
     (λ c. rw (c .before .before .found .given .1, c .cmd1 .ensures)))

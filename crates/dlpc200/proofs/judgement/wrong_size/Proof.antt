@@ -8,7 +8,6 @@ pub wrong-size-spec : {M : Type 1} → statement M
 unfolding wrongSize
 wrong-size-spec =
     tie.close (tie.spec
-    (λ c. search needs)
-    (λ c. search needs)
+    (λ c. search needs) (λ c. search needs)
     (λ c. rw (c .enum-told2 .given .1))
     (λ c. rw (c .enum-told .given .1)))

@@ -13,7 +13,4 @@ returns c =
 pub head-standard-list-spec : {M : Type 1} → statement M
 head-standard-list-spec =
     tie.close (tie.spec
-    (λ c κs. search needs)
-    (λ c κs. search needs)
-    (λ c. search needs)
-    returns)
+    (λ c κs. search needs) (λ c κs. search needs) (λ c. search needs) returns)

@@ -7,10 +7,7 @@ pub receipt-of-spec : {M : Type 1} → statement M
 receipt-of-spec =
     tie.close
     (tie.spec
-    (λ c. search needs)
-    (λ c. search needs)
-    (λ c. search needs)
-    (λ c. search needs)
+    (λ c. search needs) (λ c. search needs) (λ c. search needs) (λ c. search needs)
     (λ c. rw (c .before .a .given .1))
     (λ c. rw (c .before .a2 .given .1))
     (λ c. rw (c .enum-told .given .1))

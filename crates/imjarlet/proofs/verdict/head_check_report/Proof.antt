@@ -21,6 +21,4 @@ returns c =
 pub head-check-report-spec : {M : Type 1} → statement M
 head-check-report-spec =
     tie.close (tie.spec
-    (λ c κs. search needs)
-    (λ c κs. search needs)
-    returns)
+    (λ c κs. search needs) (λ c κs. search needs) returns)

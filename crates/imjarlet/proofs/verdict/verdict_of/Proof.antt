@@ -8,8 +8,6 @@ pub verdict-of-spec : {M : Type 1} → statement M
 unfolding verdictOf
 verdict-of-spec =
     tie.close (tie.spec
-    (λ c. search needs)
-    (λ c. search needs)
-    (λ c κs. search needs)
+    (λ c. search needs) (λ c. search needs) (λ c κs. search needs)
     (λ c. rw (c .before .before .trial .given .1))
     (λ c. rw (c .before .before .trial2 .given .1, c .factory .ensures)))

@@ -53,14 +53,8 @@ store-spec =
     (tie.spec
     Inv-loop
     μ-loop
-    (λ c κs. search needs)
-    (λ c κs. search needs)
-    loop-holds
+    (λ c κs. search needs) (λ c κs. search needs) loop-holds
     (λ c. omega (arith, c .before .before .loop .inv .1))
     (λ c. omega (arith, c .before .before .loop .inv .1))
     (λ c. omega (arith, c .before .before .loop .inv .1, c .before .before .loop .inv .2))
-    (λ c. search needs)
-    (λ c. search needs)
-    loop-again
-    (λ c. search needs)
-    returns)
+    (λ c. search needs) (λ c. search needs) loop-again (λ c. search needs) returns)

@@ -13,11 +13,7 @@ next-packet-spec =
     (λ c. let a = c .before .before .args in none-begun (now (a .b)) (a .at) (omega arith))
     (λ c. search needs)
     (λ c. let a = c .before .before .before .args in none-begun (now (a .b)) (a .at) (omega arith))
-    (λ c. search needs)
-    (λ c. search needs)
-    (λ c. search needs)
-    (λ c. search needs)
-    (λ c κs. search needs)
+    (λ c. search needs) (λ c. search needs) (λ c. search needs) (λ c. search needs) (λ c κs. search needs)
     (λ c. search needs)
     (λ c.
     let a = c .before .before .before .before .before .before .before .args in

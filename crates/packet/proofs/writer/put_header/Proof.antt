@@ -18,7 +18,4 @@ put-header-spec =
     (λ c. simp length-set (omega arith))
     (λ c. search needs)
     (λ c. simp length-set (omega arith))
-    (λ c. search needs)
-    (λ c. search needs)
-    (λ c. search needs)
-    (λ c. refl))
+    (λ c. search needs) (λ c. search needs) (λ c. search needs) (λ c. refl))

@@ -19,7 +19,4 @@ seal-spec =
     (tie.spec
     (λ c. search needs)
     (λ c. let a = c .before .before .args in sym (length-take-le (a .n) (now (a .out)) (omega arith)))
-    (λ c κs. search needs)
-    (λ c. search needs)
-    (λ c. search needs)
-    returns)
+    (λ c κs. search needs) (λ c. search needs) (λ c. search needs) returns)

@@ -21,6 +21,4 @@ returns c =
 pub byte-spec : {M : Type 1} → statement M
 byte-spec =
     tie.close (tie.spec
-    (λ c. search needs)
-    (λ c. search needs)
-    returns)
+    (λ c. search needs) (λ c. search needs) returns)

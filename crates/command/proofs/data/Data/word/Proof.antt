@@ -12,9 +12,6 @@ pub word-spec : {M : Type 1} → statement M
 unfolding bytesOf
 word-spec =
     tie.close (tie.spec
-    (λ c. search needs)
-    (λ c κs. search needs)
-    (λ c. search needs)
-    (λ c κs. search needs)
+    (λ c. search needs) (λ c κs. search needs) (λ c. search needs) (λ c κs. search needs)
     (λ c.
     (simp (c .byte2 .ensures .0, c .before .byte .ensures .0, append-assoc (contents (c .before .before .args .self)), mod-mod), omega arith)))

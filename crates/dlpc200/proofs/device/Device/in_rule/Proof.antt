@@ -7,6 +7,5 @@ pub in-rule-spec : {M : Type 1} → statement M
 in-rule-spec =
     tie.close
     (tie.spec
-    (λ c κs. search needs)
-    (λ c κs. search needs)
+    (λ c κs. search needs) (λ c κs. search needs)
     (λ c. rw (c .before .in-range .ensures, c .unfinished .ensures)))

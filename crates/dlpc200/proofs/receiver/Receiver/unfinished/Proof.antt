@@ -7,8 +7,5 @@ pub unfinished-spec : {M : Type 1} → statement M
 unfinished-spec =
     tie.close
     (tie.spec
-    (λ c. search needs)
-    (λ c. search needs)
-    (λ c κs. search needs)
-    (λ c. search needs)
+    (λ c. search needs) (λ c. search needs) (λ c κs. search needs) (λ c. search needs)
     (λ c. rw (c .word .ensures .0)))
