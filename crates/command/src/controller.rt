@@ -28,7 +28,7 @@ pub(crate) struct Parts {
 fn packet_in_rule(header: [u8; 6], received: usize) -> bool
     ensures { λ r. ⌜ r ≡ packetInRule header received ⌝ }
 {
-    received < 7 + packet::word(header[4], header[5])
+    received < packet::FRAME + packet::word(header[4], header[5])
 }
 
 impl Controller {

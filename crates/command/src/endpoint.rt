@@ -8,6 +8,7 @@ use crate::controller::in_rule;
 use crate::judgement::judge;
 use crate::output::OUTPUT;
 use crate::response::respond;
+use packet::HOLD;
 use packet::Receiver;
 ghost use mathlib.Core.Path.{_≡_};
 ghost use mathlib.Core.Bool.{true};
@@ -60,7 +61,7 @@ fn settle(mut p: Parts, right: bool, taken: usize, hold: &[u8], out: &mut [u8]) 
 }
 
 // A call that is not refused.
-fn advance(mut p: Parts, hold: &mut [u8; 1024], input: &[u8], out: &mut [u8]) -> Served
+fn advance(mut p: Parts, hold: &mut [u8; HOLD], input: &[u8], out: &mut [u8]) -> Served
     requires { ⌜ (partsInRule p ≡ true) × (64 ≤ length (now out)) ⌝ }
     ensures { λ r. ⌜ (outcomeOf (r .answer) ≡ receiveCall (controllerOf p (now (hold .entry))) (now (input .entry)) (now (out .entry)) .answer)
         × (controllerOf (r .parts) (now (hold .exit)) ≡ receiveCall (controllerOf p (now (hold .entry))) (now (input .entry)) (now (out .entry)) .controller)
@@ -82,7 +83,7 @@ fn advance(mut p: Parts, hold: &mut [u8; 1024], input: &[u8], out: &mut [u8]) ->
 }
 
 // The call: it refuses, or goes on.
-pub(crate) fn serve(p: Parts, hold: &mut [u8; 1024], input: &[u8], out: &mut [u8]) -> Served
+pub(crate) fn serve(p: Parts, hold: &mut [u8; HOLD], input: &[u8], out: &mut [u8]) -> Served
     ensures { λ r. ⌜ (outcomeOf (r .answer) ≡ receiveCall (controllerOf p (now (hold .entry))) (now (input .entry)) (now (out .entry)) .answer)
         × (controllerOf (r .parts) (now (hold .exit)) ≡ receiveCall (controllerOf p (now (hold .entry))) (now (input .entry)) (now (out .entry)) .controller)
         × (now (out .exit) ≡ receiveCall (controllerOf p (now (hold .entry))) (now (input .entry)) (now (out .entry)) .output) ⌝ }

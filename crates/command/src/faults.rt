@@ -1,7 +1,7 @@
 // The error codes, and the first group of faults: 02, 04, 09 and 0B, which are reported together.
 use crate::table::Found;
-use crate::transfer::HOLD;
 use crate::transfer::TransferState;
+use packet::HOLD;
 ghost use mathlib.Core.Path.{_≡_};
 ghost use mathlib.Core.Bool.{true};
 ghost use Prim.Native.Nat.{_≤_, _<_};

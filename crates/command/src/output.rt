@@ -1,5 +1,6 @@
 // A packet of a command's data, written to a lent output.
 use crate::data::Data;
+use packet::FRAME;
 ghost use mathlib.Core.Path.{_≡_};
 ghost use Prim.Native.Nat.{_≤_};
 ghost use lib.ListN.{length};
@@ -9,9 +10,6 @@ ghost use Rattle.command.specs.Inner.{contents};
 
 // An output shorter than this is refused.
 pub(crate) const OUTPUT: usize = 64;
-
-// A packet's header and checksum.
-const FRAME: usize = 7;
 
 // Writes the packet of these fields and data to the start of out; the rest of out stays. How many
 // bytes it has: at most 24, so that it goes into every output.

@@ -5,8 +5,8 @@ use crate::endpoint::serve;
 use crate::output::OUTPUT;
 use crate::rules::settings_in_rule;
 use crate::settings::Settings;
-use crate::transfer::HOLD;
 use crate::transfer::TransferState;
+use packet::HOLD;
 ghost use mathlib.Core.Path.{_≡_};
 ghost use Rattle.command.specs.Player.{endSettings, endClean};
 

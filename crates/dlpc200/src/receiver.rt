@@ -93,6 +93,6 @@ impl Receiver {
     pub(crate) fn unfinished(self) -> bool
         ensures { λ r. ⌜ r ≡ packetInRule (self .header) (self .received) ⌝ }
     {
-        self.received < 7 + packet::word(self.header[4], self.header[5])
+        self.received < packet::FRAME + packet::word(self.header[4], self.header[5])
     }
 }

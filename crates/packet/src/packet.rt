@@ -3,10 +3,10 @@ ghost use mathlib.Core.Path.{_≡_};
 ghost use Rattle.packet.specs.Packet.{typesAndFlags};
 
 // The bytes before the payload: type, CMD1, CMD2, flags, and the payload's length in two.
-pub(crate) const HEADER: usize = 6;
+pub const HEADER: usize = 6;
 
 // The bytes around the payload: the header, and the checksum.
-pub(crate) const FRAME: usize = HEADER + 1;
+pub const FRAME: usize = HEADER + 1;
 
 // The longest payload that the length field can tell.
 pub(crate) const PAYLOAD_MAX: usize = 65535;

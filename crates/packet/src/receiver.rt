@@ -12,7 +12,7 @@ ghost use lib.Seq.{sets};
 ghost use Rattle.packet.specs.Receiver.{fresh as freshOf, receiverOf, receivedOf, receiving};
 
 // How many payload bytes of a transfer are held.
-pub(crate) const HOLD: usize = 1024;
+pub const HOLD: usize = 1024;
 
 // What has come in of the current packet, and the hold of payload bytes. Between two packets
 // `received` and `sum` are 0, and header and hold are those of the last packet.
