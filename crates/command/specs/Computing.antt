@@ -1,6 +1,7 @@
 -- For proofs alone: one name that opens all that the play of bytes computes with, so that an example about packets is computed.
 use Rattle.packet.specs.Number.{valueOf, bytesOf}
 use Rattle.packet.specs.Packet.{payload, sum, checksum, rightSum, sealed, packetOf}
+use Rattle.packet.specs.Calls.{joined}
 use Rattle.packet.specs.Stream.{size, hasPacket, packetsIn, packets, bytesIn, rest}
 use Rattle.command.specs.Table.{find, commandOf, sizeOf}
 use Rattle.command.specs.Rules.{blocked}
@@ -13,5 +14,5 @@ use Rattle.command.specs.Response.{response}
 use Rattle.command.specs.Player.{judged, next, judgements, responses, after, play, allAcknowledged, clean}
 
 unfoldable pub playing : Unit {0}
-unfolding valueOf bytesOf payload sum checksum rightSum sealed packetOf size hasPacket packetsIn packets bytesIn rest find commandOf sizeOf factory blocked valuesAfter store splitAll joinAll dataOf wrongCommand tooLong wrongOrder faultsOf faults anyFault listIf codesOf judgeWrite judgeRead judgeData judge response judged next judgements responses after play allAcknowledged clean
+unfolding joined valueOf bytesOf payload sum checksum rightSum sealed packetOf size hasPacket packetsIn packets bytesIn rest find commandOf sizeOf factory blocked valuesAfter store splitAll joinAll dataOf wrongCommand tooLong wrongOrder faultsOf faults anyFault listIf codesOf judgeWrite judgeRead judgeData judge response judged next judgements responses after play allAcknowledged clean
 playing = tt

@@ -1,21 +1,31 @@
 -- Definitions that exist for the code or a proof alone; nothing here has to be believed. The comment of each says what it stands for, and names the law that ties it to the definition of the paper's words.
 use Prim.Native.Nat.{ℕ, zero, suc, _+_, _*_, _≤_}
 use mathlib.Core.Path.{_≡_}
-use mathlib.Core.Bool.{Bool, true, false, not, _&&_}
+use mathlib.Core.Bool.{Bool, true, false, cond, not, _&&_}
 use mathlib.Core.List.{List, [], _∷_, _++_}
 use lib.Dec.{eqb}
-use lib.ListN.{take, getD}
+use lib.ListN.{length, take, getD}
 use Rattle.packet.specs.Number.{bytesOf}
-use Rattle.command.specs.Table.{hasCode}
+use Rattle.command.specs.Table.{table, hasCode, layout, sizeOf}
 use Rattle.command.specs.Rules.{settingsInRule}
+use Rattle.command.specs.Data.{splitAll}
+use Rattle.command.specs.Value.{valueFrom}
 use Rattle.command.specs.Controller.{transferInRule, packetInRule}
 use Rattle.command.specs.Endpoint.{After, answered}
+use Rattle.command.specs.declared.table.Command.{Command}
+use Rattle.command.specs.declared.table.Command.the-variants.{SequenceRun}
 use Rattle.command.specs.declared.table.Found.{Found}
 use Rattle.command.specs.declared.table.Found.the-variants.{Known, Unknown}
+use Rattle.command.specs.declared.value.Parsed.{Parsed}
+use Rattle.command.specs.declared.value.Parsed.the-variants.{Values, WrongSize}
 use Rattle.command.specs.declared.data.Data.{Data}
 use Rattle.command.specs.declared.transfer.TransferState.{TransferState}
 use Rattle.command.specs.declared.controller.Controller.{Controller}
 use Rattle.command.specs.declared.controller.Parts.{Parts}
+
+-- the command in line k of the table, from 0; past the end, the last
+abbrev pub commandAt : ℕ → Command
+commandAt k = getD table k SequenceRun
 
 -- Data by their layout.
 
@@ -40,7 +50,11 @@ joinOnto d [] vs = d
 joinOnto d (w ∷ ws) [] = d
 joinOnto d (w ∷ ws) (v ∷ vs) = joinOnto (d ++ bytesOf w v) ws vs
 
--- the bytes of d that count
+-- the values that stand in data of the command's size: what judgeWrite looks at (law write-parsed of judgement/Laws)
+unfoldable pub parsed : Command → List ℕ → Parsed
+parsed c d = cond (eqb (length d) (sizeOf c)) (Values (valueFrom c (splitAll (layout c) d))) WrongSize
+
+-- the bytes of d that count: those that a packet is written with (the contract of emit)
 abbrev pub contents : Data → List ℕ
 contents d = take (d .length) (d .bytes)
 
@@ -59,7 +73,7 @@ abbrev pub openForIn : Found → TransferState → Bool
 openForIn Unknown t = false
 openForIn (Known c) t = isOpenIn t && hasCode (t .cmd1) (t .cmd2) c
 
--- A controller whose hold is lent apart from its other parts.
+-- A controller whose hold is lent apart from its other parts: the contracts of serve and receive state receiveCall of it.
 
 abbrev pub controllerOf : Parts → List ℕ → Controller
 controllerOf p hold =
@@ -69,7 +83,7 @@ controllerOf p hold =
       receiver = record { header = p .header; sum = p .sum; received = p .received; hold = hold };
     }
 
--- what refusal 3 lets pass, by the parts: inRule of the controller that they make
+-- what refusal 3 lets pass, by the parts: inRule of the controller that they make (law parts-in-rule of controller/Laws)
 abbrev pub partsInRule : Parts → Bool
 partsInRule p = settingsInRule (p .settings) && transferInRule (p .transfer) && packetInRule (p .header) (p .received)
 

@@ -1,6 +1,6 @@
--- What the contracts of command cite.
+-- The definitions of command, in the order in which to read them.
 pub mod Table
-pub mod Parts
+pub mod Fields
 pub mod Settings
 pub mod Rules
 pub mod Data

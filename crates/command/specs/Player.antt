@@ -2,6 +2,7 @@
 use Prim.Native.Nat.{ℕ}
 use mathlib.Core.Bool.{Bool, true, false, not, _&&_, cond}
 use mathlib.Core.List.{List, [], _∷_}
+use Rattle.packet.specs.Calls.{joined}
 use Rattle.packet.specs.Stream.{packets, rest}
 use Rattle.command.specs.Rules.{settingsInRule}
 use Rattle.command.specs.Transfer.{Transfer, Closed, isOpen}
@@ -54,8 +55,8 @@ play s b = after (from s) (packets b)
 abbrev pub judgementsOn : Settings → List ℕ → List Judgement
 judgementsOn s b = judgements (from s) (packets b)
 
-abbrev pub responsesTo : Settings → List ℕ → List (List ℕ)
-responsesTo s b = responses (from s) (packets b)
+abbrev pub answersTo : Settings → List ℕ → List ℕ
+answersTo s b = joined (responses (from s) (packets b))
 
 abbrev pub halfSent : List ℕ → List ℕ
 halfSent b = rest b

@@ -4,7 +4,7 @@ use mathlib.Core.Bool.{cond, not, _&&_}
 use mathlib.Core.List.{List, [], _∷_}
 use lib.Dec.{eqb}
 use lib.ListN.{getD}
-use Rattle.command.specs.Parts.{currentValues, currentFrom, colourValues, colourFrom, settingValues, settingFrom, inputValues, inputFrom, videoValues, videoFrom, sequenceValues, sequenceFrom}
+use Rattle.command.specs.Fields.{currentValues, currentFrom, colourValues, colourFrom, settingValues, settingFrom, inputValues, inputFrom, videoValues, videoFrom, sequenceValues, sequenceFrom}
 use Rattle.command.specs.Table.{same}
 use Rattle.command.specs.declared.table.Command.{Command}
 use Rattle.command.specs.declared.table.Command.the-variants.{DisplayMode, TestPattern, LedCurrent, StaticColour, DisplaySetting, VideoInput, VideoMode, PatternSequence, SequenceRun}

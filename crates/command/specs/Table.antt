@@ -3,7 +3,6 @@ use Prim.Native.Nat.{ℕ}
 use mathlib.Core.Bool.{Bool, true, false, cond, not, _&&_}
 use mathlib.Core.List.{List, [], _∷_}
 use lib.Dec.{eqb}
-use lib.ListN.{getD}
 use Rattle.packet.specs.Packet.{sum}
 use Rattle.command.specs.declared.table.Command.{Command}
 use Rattle.command.specs.declared.table.Command.the-variants.{DisplayMode, TestPattern, LedCurrent, StaticColour, DisplaySetting, VideoInput, VideoMode, PatternSequence, SequenceRun}
@@ -14,10 +13,6 @@ use Rattle.command.specs.declared.table.Found.the-variants.{Known, Unkno
 abbrev pub table : List Command
 table =
     DisplayMode ∷ TestPattern ∷ LedCurrent ∷ StaticColour ∷ DisplaySetting ∷ VideoInput ∷ VideoMode ∷ PatternSequence ∷ SequenceRun ∷ []
-
--- the command in line k, from 0; past the end, the last
-abbrev pub commandAt : ℕ → Command
-commandAt k = getD table k SequenceRun
 
 -- The column "command": CMD1 and CMD2.
 abbrev pub cmd1For : Command → ℕ

@@ -1,20 +1,16 @@
 -- A command with its values, as the code has it, and its data: what a write carries and a read answers, "in the same layout".
 use Prim.Native.Nat.{ℕ}
 use mathlib.Core.List.{List, [], _∷_}
-use mathlib.Core.Bool.{cond}
-use lib.Dec.{eqb}
-use lib.ListN.{length, getD}
-use Rattle.command.specs.Data.{splitAll, joinAll}
-use Rattle.command.specs.Parts.{currentValues, currentFrom, colourValues, colourFrom, settingValues, settingFrom, inputValues, inputFrom, videoValues, videoFrom, sequenceValues, sequenceFrom}
-use Rattle.command.specs.Table.{layout, sizeOf}
+use lib.ListN.{getD}
+use Rattle.command.specs.Data.{joinAll}
+use Rattle.command.specs.Fields.{currentValues, currentFrom, colourValues, colourFrom, settingValues, settingFrom, inputValues, inputFrom, videoValues, videoFrom, sequenceValues, sequenceFrom}
+use Rattle.command.specs.Table.{layout}
 use Rattle.command.specs.Settings.{valuesOf}
 use Rattle.command.specs.declared.settings.Settings.{Settings}
 use Rattle.command.specs.declared.table.Command.{Command}
 use Rattle.command.specs.declared.table.Command.the-variants.{DisplayMode, TestPattern, LedCurrent, StaticColour, DisplaySetting, VideoInput, VideoMode, PatternSequence, SequenceRun}
 use Rattle.command.specs.declared.value.Value.{Value}
 use Rattle.command.specs.declared.value.Value.the-variants as value
-use Rattle.command.specs.declared.value.Parsed.{Parsed}
-use Rattle.command.specs.declared.value.Parsed.the-variants.{Values, WrongSize}
 
 -- its command
 abbrev pub commandIn : Value → Command
@@ -59,7 +55,3 @@ dataIn v = joinAll (layout (commandIn v)) (valuesIn v)
 -- the command's data, as a read answers it and a write carries it
 unfoldable pub dataOf : Command → Settings → List ℕ
 dataOf c s = joinAll (layout c) (valuesOf c s)
-
--- the values that stand in data of the command's size; other data draw 0A
-unfoldable pub parsed : Command → List ℕ → Parsed
-parsed c d = cond (eqb (length d) (sizeOf c)) (Values (valueFrom c (splitAll (layout c) d))) WrongSize

@@ -3,6 +3,7 @@
 use crate::rules::settings_in_rule;
 use crate::settings::Settings;
 use crate::transfer::TransferState;
+use packet::HEADER;
 use packet::Receiver;
 ghost use mathlib.Core.Path.{_≡_};
 ghost use Rattle.command.specs.Controller.{fresh as freshOf, packetInRule};
@@ -19,13 +20,13 @@ pub struct Controller {
 pub(crate) struct Parts {
     pub settings: Settings,
     pub transfer: TransferState,
-    pub header: [u8; 6],
+    pub header: [u8; HEADER],
     pub sum: u8,
     pub received: usize,
 }
 
 // The current packet has not all its bytes.
-fn packet_in_rule(header: [u8; 6], received: usize) -> bool
+fn packet_in_rule(header: [u8; HEADER], received: usize) -> bool
     ensures { λ r. ⌜ r ≡ packetInRule header received ⌝ }
 {
     received < packet::FRAME + packet::word(header[4], header[5])

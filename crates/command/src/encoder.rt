@@ -15,7 +15,7 @@ ghost use Rattle.packet.specs.Writer.{written};
 ghost use Rattle.command.specs.Encoder.{outcomeOf, encodeCall, listCall, encoded, standardList};
 
 // The standard list refuses an output shorter than this.
-const LIST_OUTPUT: usize = 128;
+pub const LIST_OUTPUT: usize = 128;
 
 // How many commands the table has.
 const COMMANDS: usize = 9;

@@ -1,6 +1,7 @@
 // The error codes, and the first group of faults: 02, 04, 09 and 0B, which are reported together.
 use crate::table::Found;
 use crate::transfer::TransferState;
+use packet::HEADER;
 use packet::HOLD;
 ghost use mathlib.Core.Path.{_≡_};
 ghost use mathlib.Core.Bool.{true};
@@ -114,7 +115,7 @@ fn open_for(found: Found, t: TransferState) -> bool
 }
 
 // The first group of faults, every one that holds.
-pub(crate) fn faults(found: Found, t: TransferState, header: [u8; 6], right: bool) -> Codes
+pub(crate) fn faults(found: Found, t: TransferState, header: [u8; HEADER], right: bool) -> Codes
     requires { ⌜ transferInRule t ≡ true ⌝ }
     ensures { λ r. ⌜ r ≡ faultsOf found (isOpenIn t) (openForIn found t) (heldIn t) (typeOf header) (flagsOf header) (payloadLength header) right ⌝ }
 {

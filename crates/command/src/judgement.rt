@@ -10,6 +10,7 @@ use crate::transfer::TransferState;
 use crate::value::Parsed;
 use crate::value::Value;
 use crate::value::parse;
+use packet::HEADER;
 ghost use mathlib.Core.Path.{_≡_};
 ghost use Rattle.packet.specs.Packet.{typeOf, flagsOf};
 ghost use Rattle.command.specs.Judgement.{judgeData as judgeDataOf, judgeRead as judgeReadOf, judgeWrite as judgeWriteOf, judge as judgeOf};
@@ -55,7 +56,7 @@ fn judge_read(c: Command, n: usize) -> Judgement
 }
 
 // With no fault of the first group: only for flags 00 or 03 are the data complete.
-fn judge_data(found: Found, mode: u8, header: [u8; 6], d: &[u8]) -> Judgement
+fn judge_data(found: Found, mode: u8, header: [u8; HEADER], d: &[u8]) -> Judgement
     ensures { λ r. ⌜ r ≡ judgeDataOf found mode (typeOf header) (flagsOf header) (now (d .entry)) ⌝ }
 {
     let Found::Known(c) = found else {
@@ -77,7 +78,7 @@ fn judge_data(found: Found, mode: u8, header: [u8; 6], d: &[u8]) -> Judgement
 pub(crate) fn judge(
     mode: u8,
     t: TransferState,
-    header: [u8; 6],
+    header: [u8; HEADER],
     right: bool,
     hold: &[u8],
 ) -> Judgement

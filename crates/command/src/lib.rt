@@ -28,11 +28,13 @@ mod player;
 // The head and its calls.
 pub use controller::Controller;
 pub use encoder::Encoded;
+pub use encoder::LIST_OUTPUT;
 pub use encoder::encode;
 pub use encoder::standard_list;
 pub use endpoint::Answer;
 pub use endpoint::Step;
 pub use endpoint::receive;
+pub use output::OUTPUT;
 pub use player::Played;
 pub use player::play;
 pub use transfer::TransferState;

@@ -9,7 +9,7 @@ ghost use Rattle.packet.specs.Writer.{written};
 ghost use Rattle.command.specs.Inner.{contents};
 
 // An output shorter than this is refused.
-pub(crate) const OUTPUT: usize = 64;
+pub const OUTPUT: usize = 64;
 
 // Writes the packet of these fields and data to the start of out; the rest of out stays. How many
 // bytes it has: at most 24, so that it goes into every output.
@@ -19,6 +19,7 @@ pub(crate) fn emit(out: &mut [u8], kind: u8, cmd1: u8, cmd2: u8, d: Data) -> usi
 {
     let bytes = d.bytes;
     let n = d.length;
+    // There is room, so the packet goes in.
     packet::write_packet(out, kind, cmd1, cmd2, packet::WHOLE, &bytes[..n]);
     n + FRAME
 }

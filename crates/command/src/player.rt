@@ -6,6 +6,7 @@ use crate::output::OUTPUT;
 use crate::rules::settings_in_rule;
 use crate::settings::Settings;
 use crate::transfer::TransferState;
+use packet::HEADER;
 use packet::HOLD;
 ghost use mathlib.Core.Path.{_≡_};
 ghost use Rattle.command.specs.Player.{endSettings, endClean};
@@ -30,7 +31,7 @@ pub fn play(s: Settings, b: &[u8]) -> Played
     let mut c = Parts {
         settings: s,
         transfer: TransferState::NONE,
-        header: [0; 6],
+        header: [0; HEADER],
         sum: 0,
         received: 0,
     };

@@ -10,7 +10,7 @@ use crate::settings::VideoMode;
 use crate::value::Value;
 ghost use mathlib.Core.Path.{_≡_};
 ghost use mathlib.Core.List.{[], _∷_};
-ghost use Rattle.command.specs.Parts.{currentValues, colourValues, settingValues, inputValues, videoValues, sequenceValues};
+ghost use Rattle.command.specs.Fields.{currentValues, colourValues, settingValues, inputValues, videoValues, sequenceValues};
 ghost use Rattle.command.specs.Rules.{allowed as allowedIn, blocked as blockedIn, settingsInRule};
 ghost use Rattle.command.specs.declared.table.Command.the-variants as command;
 ghost use Rattle.command.specs.Value.{commandIn, valuesIn};

@@ -1,7 +1,7 @@
 // The table of the nine commands: their bytes CMD1 and CMD2, the size of their data, their order.
 ghost use mathlib.Core.Path.{_≡_};
-ghost use Rattle.command.specs.Inner.{total};
-ghost use Rattle.command.specs.Table.{isKnown, canRead, cmd1For, cmd2For, commandAt, commandOf, layout};
+ghost use Rattle.command.specs.Inner.{total, commandAt};
+ghost use Rattle.command.specs.Table.{isKnown, canRead, cmd1For, cmd2For, commandOf, layout};
 
 pub enum Command {
     DisplayMode,

@@ -13,13 +13,13 @@ use crate::settings::VideoInput;
 use crate::settings::VideoMode;
 use crate::table::Command;
 ghost use mathlib.Core.Path.{_≡_};
-ghost use Rattle.command.specs.Value.{commandIn, valueFrom, parsed, dataIn};
+ghost use Rattle.command.specs.Value.{commandIn, valueFrom, dataIn};
 ghost use mathlib.Core.List.{[]};
 ghost use lib.ListN.{length};
-ghost use Rattle.command.specs.Parts.{currentValues, colourValues, settingValues, inputValues, videoValues, sequenceValues};
+ghost use Rattle.command.specs.Fields.{currentValues, colourValues, settingValues, inputValues, videoValues, sequenceValues};
 ghost use Rattle.command.specs.Table.{layout};
 ghost use Rattle.command.specs.declared.table.Command.the-variants as command;
-ghost use Rattle.command.specs.Inner.{Holds, total, splitFrom, joinOnto};
+ghost use Rattle.command.specs.Inner.{Holds, total, splitFrom, joinOnto, parsed};
 
 pub enum Value {
     DisplayMode(u8),

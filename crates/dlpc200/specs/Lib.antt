@@ -1,4 +1,4 @@
--- What the contracts of dlpc200 cite, in reading order: request 1 and the sections of source document 000 that it names.
+-- The definitions of dlpc200, in the order in which to read them.
 pub mod Packet
 pub mod Table
 pub mod States

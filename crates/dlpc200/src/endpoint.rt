@@ -10,6 +10,9 @@ ghost use Prim.Native.Nat.{_≤_};
 ghost use lib.ListN.{length};
 ghost use Rattle.dlpc200.specs.Endpoint.{answered, outcomeOf, receiveCall};
 
+// An output shorter than this is refused.
+const OUTPUT: usize = 64;
+
 // What a call answers.
 pub enum Answer {
     // The input ended before a packet did; all of it was taken.
@@ -61,7 +64,7 @@ pub fn receive(d: Device, input: &[u8], out: &mut [u8]) -> Step
         × (r .device ≡ receiveCall d (now (input .entry)) (now (out .entry)) .device)
         × (now (out .exit) ≡ receiveCall d (now (input .entry)) (now (out .entry)) .output) ⌝ }
 {
-    if out.len() < 64 {
+    if out.len() < OUTPUT {
         return Step {
             device: d,
             answer: Answer::ShortOutput,

@@ -1,6 +1,7 @@
 // How a complete packet is judged, and what a judgement changes.
 use crate::header::DATA_LIMIT;
 use crate::header::EXTENDED;
+use crate::header::HEADER_SIZE;
 use crate::header::ID_SIZE;
 use crate::header::ONLY;
 use crate::header::READ;
@@ -22,7 +23,7 @@ pub(crate) enum Judgement {
 }
 
 // The command of a packet with this header, these being its first two data bytes.
-fn command_in(header: [u8; 6], id: [u8; 2]) -> Found
+fn command_in(header: [u8; HEADER_SIZE], id: [u8; 2]) -> Found
     ensures { λ r. ⌜ r ≡ commandIn (payloadLength header) id ⌝ }
 {
     if packet::word(header[4], header[5]) < ID_SIZE {
@@ -54,7 +55,7 @@ fn wrong_size(found: Found, size: usize) -> bool
 }
 
 // Every fault that holds of a packet of this command.
-fn faults_in(found: Found, header: [u8; 6], right: bool) -> Faults
+fn faults_in(found: Found, header: [u8; HEADER_SIZE], right: bool) -> Faults
     ensures { λ r. ⌜ r ≡ faultsOf (arrivedOf found header right) ⌝ }
 {
     Faults {
@@ -67,7 +68,7 @@ fn faults_in(found: Found, header: [u8; 6], right: bool) -> Faults
 }
 
 // A complete packet: its header, its first two data bytes, and whether its checksum was right.
-pub(crate) fn judge(header: [u8; 6], id: [u8; 2], right: bool) -> Judgement
+pub(crate) fn judge(header: [u8; HEADER_SIZE], id: [u8; 2], right: bool) -> Judgement
     ensures { λ r. ⌜ r ≡ judgeOf (arrivedBy header id right) ⌝ }
 {
     let found = command_in(header, id);

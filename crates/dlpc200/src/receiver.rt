@@ -1,5 +1,6 @@
 // The receiver: takes one packet from a stream of bytes, byte by byte as the stream arrives.
 use crate::header::HEADER_SIZE;
+use crate::header::ID_SIZE;
 ghost use mathlib.Core.Bool.{cond};
 ghost use mathlib.Core.Path.{_≡_};
 ghost use Prim.Native.Nat.{_+_, _%_};
@@ -7,7 +8,7 @@ ghost use lib.Dec.{ltb};
 ghost use Rattle.dlpc200.specs.Receiver.{packetInRule, receiving};
 
 // How many bytes of a packet are held: the header and the ID.
-const HELD_SIZE: usize = 8;
+const HELD_SIZE: usize = HEADER_SIZE + ID_SIZE;
 
 // What has come in of the current packet. Of its data only the first two bytes are held: they are
 // the command's ID, and no command here has more. Between two packets `received` and `sum` are 0,
@@ -15,7 +16,7 @@ const HELD_SIZE: usize = 8;
 #[repr(C)]
 pub struct Receiver {
     // CMD1, CMD2, CMD3, CMD4, Len_LSB, Len_MSB.
-    pub header: [u8; 6],
+    pub header: [u8; HEADER_SIZE],
     // Data[0] and Data[1].
     pub id: [u8; 2],
     // The sum of the bytes received of the current packet after CMD4, modulo 256.

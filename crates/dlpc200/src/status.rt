@@ -28,7 +28,7 @@ pub(crate) struct Faults {
 
 impl Faults {
     // With none of them a packet failed because its command is unknown.
-    pub const NONE: Faults = Faults {
+    pub(crate) const NONE: Faults = Faults {
         checksum: false,
         cmd1: false,
         cmd2: false,
@@ -37,7 +37,7 @@ impl Faults {
     };
 
     // One of them holds, or several.
-    pub fn any(self) -> bool
+    pub(crate) fn any(self) -> bool
         ensures { λ r. ⌜ r ≡ anyFault self ⌝ }
     {
         self.checksum | self.cmd1 | self.cmd2 | self.cmd4 | self.size

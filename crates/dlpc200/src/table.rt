@@ -22,7 +22,7 @@ pub(crate) enum Found {
 }
 
 impl Command {
-    pub fn find(id: usize) -> Found
+    pub(crate) fn find(id: usize) -> Found
         ensures { λ r. ⌜ r ≡ commandOf id ⌝ }
     {
         match id {
@@ -38,7 +38,7 @@ impl Command {
     }
 
     // The CMD1 that a packet of this command has.
-    pub fn cmd1(self) -> u8
+    pub(crate) fn cmd1(self) -> u8
         ensures { λ r. ⌜ r ≡ cmd1For self ⌝ }
     {
         match self {
@@ -53,7 +53,7 @@ impl Command {
     }
 
     // The park state after this command, v being the one before.
-    pub fn park(self, v: u8) -> u8
+    pub(crate) fn park(self, v: u8) -> u8
         ensures { λ r. ⌜ r ≡ parkAfter self v ⌝ }
     {
         match self {

@@ -64,7 +64,7 @@ fn send(a: Answer, out: &[u8], left: usize) -> Sent
 fn serve(c: Controller, input: &[u8]) -> Served
     ensures { λ r. ⌜ r .taken ≤ length (now (input .entry)) ⌝ }
 {
-    let mut out = [0u8; 64];
+    let mut out = [0u8; command::OUTPUT];
     let s = command::receive(c, input, &mut out);
     let next = s.controller;
     let answer = s.answer;

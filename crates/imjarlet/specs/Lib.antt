@@ -1,2 +1,2 @@
--- What the contracts of the exported calls cite.
+-- The definitions of imjarlet, in the order in which to read them.
 pub mod Answers

@@ -46,7 +46,7 @@ fn emitted_of(e: Encoded) -> Emitted
 fn unknown(n: usize) -> Encoded
     ensures { λ e. ⌜ outcomeOf e ≡ Refuses (cond (ltb n 64) 1 2) ⌝ }
 {
-    if n < 64 {
+    if n < command::OUTPUT {
         return Encoded::ShortOutput;
     }
     Encoded::NotAllowed

@@ -1,4 +1,4 @@
--- The packet layer as document 01 has it: what the contracts of this crate and the crates above cite.
+-- The definitions of packet, in the order in which to read them.
 pub mod Number
 pub mod Packet
 pub mod Stream

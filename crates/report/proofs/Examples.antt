@@ -1,11 +1,10 @@
 -- The examples hold: the checker computes them from the definitions.
 use lib.Dec.{T}
-use Rattle.packet.specs.Calls.{joined}
 use Rattle.command.specs.Computing.{playing}
 use Rattle.report.specs.Record.{_>>=_, need, reading}
 use Rattle.report.specs.Report.{readTrials, readHead, readEnd, readReport, scoreAt, endFrom, noneBelow, earlierAbove, firstLowest, sameList, every, sameSettings, checkReport, verdictOf, verdict}
 use Rattle.report.specs.Examples.{lastDraws, isYes, isNo, holds, hold, examples}
 
 pub examples-hold : T (hold examples)
-unfolding playing joined sameList lastDraws _>>=_ need reading readTrials readHead readEnd readReport scoreAt endFrom noneBelow earlierAbove firstLowest every sameSettings checkReport verdictOf verdict isYes isNo holds hold
+unfolding playing sameList lastDraws _>>=_ need reading readTrials readHead readEnd readReport scoreAt endFrom noneBelow earlierAbove firstLowest every sameSettings checkReport verdictOf verdict isYes isNo holds hold
 examples-hold = tt

@@ -16,7 +16,7 @@ use Rattle.command.specs.Player.{play, isNil, clean}
 use Rattle.report.specs.Record.{Bad, Good, _>>=_, _>>_, need, sized, reading}
 use Rattle.report.specs.Report.{Trial, Report, readTrials, readHead, readEnd, readReport, endFrom, firstLowest, sameSettings, checkReport, Refused, verdictOf, verdict}
 use Rattle.report.specs.Claim.{recordOf, headOf, trialRecords, reportOf, Scores, FirstLowest, Ships}
-use Rattle.report.specs.Refusals.{Begins, Due, Head, More, Winner, Shipping, Layout, Fault, F11, F12, F13, F14, F15, F16, F17, F18, F19, F20, Refusal, Long, Later}
+use Rattle.report.specs.Refusals.{Begins, Due, Head, More, Winner, Shipping, Layout, WrongLength, NotFour, UnderFour, NotTwo, Fault, F11, F12, F13, F14, F15, F16, F17, F18, F19, F20, Refusal, Long, Later}
 use Rattle.report.proofs.record.Laws.{run, stop, pass, fail, short-body, other-kind, wrong-size}
 use Rattle.report.proofs.same.Laws.{settings-true}
 use Rattle.report.proofs.trials.Laws.{lowest-true, lowest-back}
@@ -196,10 +196,16 @@ over-long : (r : List ℕ) → 60000 < length r → verdict r ≡ Refused 10 0
 unfolding readReport readHead
 over-long r h = report-bad r (stop (readHead r) _ (fail _ 10 0 _ (lt-leb (length r) 60000 h)))
 
+-- 13
+not-sized : {kind n : ℕ} → WrongLength kind n → sized kind n ≡ false
+not-sized (NotFour n h) = ne-eqb n 4 h
+not-sized (UnderFour n h) = lt-leb 4 n h
+not-sized (NotTwo n h) = ne-eqb n 2 h
+
 fault-refused : (r : List ℕ) {n p : ℕ} → length r ≤ 60000 → Fault r n p → verdict r ≡ Refused n p
 fault-refused r l (F11 kind at left d h) = cut-short r l d h
 fault-refused r l (F12 kind at left other body more d e o h) = another-kind r l d other body more e o h
-fault-refused r l (F13 kind at left body more d e h) = another-size r l d kind body more e refl h
+fault-refused r l (F13 kind at left body more d e h) = another-size r l d kind body more e refl (not-sized h)
 fault-refused r l (F14 v n more e b h) = other-version r l v n more e b h
 fault-refused r l (F15 more e) = no-trials r l 1 0 more e refl refl
 fault-refused r l (F16 ts k more b z c h) = no-such-trial r l ts k more b z c h

@@ -4,13 +4,12 @@ use mathlib.Core.Bool.{Bool, true, false, not, _&&_}
 use mathlib.Core.List.{List, [], _∷_, _++_}
 use lib.Dec.{eqb}
 use lib.ListN.{replicate}
-use Rattle.packet.specs.Calls.{joined}
 use Rattle.command.specs.Rules.{allowed}
 use Rattle.command.specs.Settings.{valuesOf, factory}
 use Rattle.command.specs.declared.table.Command.{Command}
 use Rattle.command.specs.declared.table.Command.the-variants.{DisplayMode, TestPattern, LedCurrent, StaticColour, DisplaySetting, VideoInput, VideoMode, PatternSequence, SequenceRun}
 use Rattle.command.specs.Response.{codesIn}
-use Rattle.command.specs.Player.{State, from, judged, next, responsesTo, play, clean}
+use Rattle.command.specs.Player.{State, from, judged, next, answersTo, play, clean}
 use Rattle.report.specs.Report.{sameList, Verdict, Accepted, Refused, verdict}
 
 pub data Example : Type 0 where
@@ -46,7 +45,7 @@ isNo (Accepted k n s) n′ p′ = false
 isNo (Refused n p) n′ p′ = eqb n n′ && eqb p p′
 
 unfoldable pub holds : Example → Bool
-holds (Answers b r) = sameList (joined (responsesTo factory b)) r
+holds (Answers b r) = sameList (answersTo factory b) r
 holds (Leaves b c v) = sameList (valuesOf c (play factory b .settings)) v
 holds (Draws ps k) = sameList (lastDraws (from factory) ps) k
 holds (Cleans b true) = clean factory b

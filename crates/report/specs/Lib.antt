@@ -1,4 +1,4 @@
--- What the contracts of report cite.
+-- The definitions of report, in the order in which to read them.
 pub mod Record
 pub mod Report
 pub mod Claim

@@ -1,13 +1,11 @@
 -- The table of refusals: when each number holds, and its place.
 use Prim.Native.Nat.{ℕ, _+_, _≤_, _<_}
 use mathlib.Core.Path.{_≡_}
-use mathlib.Core.Bool.{false}
 use mathlib.Core.List.{List, _∷_, _++_}
 use lib.ListN.{length, take}
 use Rattle.packet.specs.Number.{valueOf, bytesOf}
 use Rattle.command.specs.Settings.{factory}
 use Rattle.command.specs.Player.{play}
-use Rattle.report.specs.Record.{sized}
 use Rattle.report.specs.Report.{Trial, endFrom}
 use Rattle.report.specs.Claim.{recordOf, headOf, trialRecords, reportOf, Scores, FirstLowest, Ships}
 
@@ -35,6 +33,12 @@ pub record Layout (r : List ℕ) (ts : List Trial) (k : ℕ) (ship : List ℕ) :
   pub scores : Scores ts
   pub named : k < length ts
 
+-- a body has not the length of its kind: not 4 (kind 1), under 4 (kind 2), not 2 (kind 3)
+pub data WrongLength : ℕ → ℕ → Type 0 where
+  NotFour : (n : ℕ) → (n ≡ 4 → ⊥) → WrongLength 1 n
+  UnderFour : (n : ℕ) → n < 4 → WrongLength 2 n
+  NotTwo : (n : ℕ) → (n ≡ 2 → ⊥) → WrongLength 3 n
+
 -- the refusals after 10, each with its place
 pub data Fault (r : List ℕ) : ℕ → ℕ → Type 0 where
   -- a record is due and fewer bytes are left than its header or body needs
@@ -44,7 +48,7 @@ pub data Fault (r : List ℕ) : ℕ → ℕ → Type 0 where
       → (other ≡ kind → ⊥)
       → Fault r 12 at
   -- body length not 4 (kind 1), under 4 (kind 2), not 2 (kind 3)
-  F13 : (kind at : ℕ) (left body more : List ℕ) → Due r kind at left → left ≡ recordOf kind body ++ more → sized kind (length body) ≡ false
+  F13 : (kind at : ℕ) (left body more : List ℕ) → Due r kind at left → left ≡ recordOf kind body ++ more → WrongLength kind (length body)
       → Fault r 13 at
   -- version not 1
   F14 : (version count : ℕ) (more : List ℕ) → r ≡ recordOf 1 (bytesOf 2 version ++ bytesOf 2 count) ++ more → version < 65536 → (version ≡ 1 → ⊥)

@@ -7,7 +7,7 @@ use command::StaticColour;
 use command::VideoInput;
 use command::VideoMode;
 ghost use mathlib.Core.Path.{_≡_};
-ghost use Rattle.command.specs.Parts.{currentValues, colourValues, settingValues, inputValues, videoValues, sequenceValues};
+ghost use Rattle.command.specs.Fields.{currentValues, colourValues, settingValues, inputValues, videoValues, sequenceValues};
 ghost use Rattle.report.specs.Report.{sameList, sameSettings};
 
 fn same_current(a: LedCurrent, b: LedCurrent) -> bool

@@ -54,7 +54,7 @@ fn finish(said: Said, c: Controller) -> Said {
     let unfinished = said.bytes(b"\nunfinished ", b"", 0);
     let received = unfinished.hex(c.receiver.received as u64);
     let told = transfer(received, c.transfer, c.receiver);
-    let mut list = [0u8; 128];
+    let mut list = [0u8; command::LIST_OUTPUT];
     match command::standard_list(c.settings, &mut list) {
         command::Encoded::Length(length) => told.bytes(b"\nlist ", &list, length),
         _ => told,
@@ -76,7 +76,7 @@ fn feed(mut said: Said, b: &[u8], cut: usize, size: usize) -> Said
     let mut c = Controller::fresh();
     let mut at: usize = 0;
     loop {
-        let mut out = [0u8; 64];
+        let mut out = [0u8; command::OUTPUT];
         let end = piece_end(at, cut, size, b.len());
         let s = command::receive(c, &b[at..end], &mut out);
         c = s.controller;

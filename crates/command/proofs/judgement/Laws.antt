@@ -13,13 +13,13 @@ use Rattle.packet.proofs.Cases.{bool-cases, cond-cases}
 use Rattle.command.specs.Table.{commandOf, layout, sizeOf}
 use Rattle.command.specs.Rules.{allowed, blocked}
 use Rattle.command.specs.Data.{splitAll}
-use Rattle.command.specs.Value.{commandIn, valuesIn, valueFrom, parsed}
+use Rattle.command.specs.Value.{commandIn, valuesIn, valueFrom}
 use Rattle.command.specs.Transfer.{Transfer, held}
 use Rattle.command.specs.Faults.{Arrived, faultsOf, faults, anyFault, sizeFault, valueFault, modeFault}
 use Rattle.command.specs.Judgement.{judgeWrite, judgeRead, completes, judgeData, judge}
 use Rattle.command.specs.Response.{acknowledged, responseType}
 use Rattle.command.specs.Controller.{heldIn, transferIn, transferInRule, packetIn}
-use Rattle.command.specs.Inner.{isOpenIn, openForIn}
+use Rattle.command.specs.Inner.{isOpenIn, openForIn, parsed}
 use Rattle.command.specs.declared.table.Command.{Command}
 use Rattle.command.specs.declared.table.Found.{Found}
 use Rattle.command.specs.declared.table.Found.the-variants.{Known, Unknown}

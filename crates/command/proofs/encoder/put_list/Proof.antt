@@ -9,9 +9,10 @@ use borrow.Rule.Slice.PartMut.{putMid}
 use Rattle.packet.specs.Packet.{sum}
 use Rattle.packet.specs.Writer.{written}
 use Rattle.packet.proofs.WriterLaws.{written-none, written-part, length-written-to}
-use Rattle.command.specs.Table.{table, commandAt, sizeOf}
+use Rattle.command.specs.Table.{table, sizeOf}
 use Rattle.command.specs.Value.{dataOf}
 use Rattle.command.specs.Encoder.{writePacket, listOf, standardList}
+use Rattle.command.specs.Inner.{commandAt}
 use Rattle.command.specs.declared.table.Command.the-variants.{SequenceRun}
 use Rattle.command.proofs.encoder.Lists.{list-size, list-more, list-left, write-most, encoded-value, sizes}
 use Rattle.command.proofs.encoder.put_list.Statement.{statement}

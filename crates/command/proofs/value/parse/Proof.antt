@@ -3,7 +3,8 @@ use mathlib.Core.Path.{ap, sym, _∙_}
 use borrow.Author.Tests.{eq-eqb, ne-eqb}
 use denote.Ref.{now}
 use Rattle.command.specs.Table.{layout}
-use Rattle.command.specs.Value.{valueFrom, parsed}
+use Rattle.command.specs.Value.{valueFrom}
+use Rattle.command.specs.Inner.{parsed}
 use Rattle.command.specs.declared.value.Parsed.the-variants.{Values}
 use Rattle.command.proofs.data.Laws.{size-layout, split-places}
 use borrow.Author.Needs.{needs}

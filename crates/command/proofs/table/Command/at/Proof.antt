@@ -5,7 +5,8 @@ use mathlib.Core.Logic.{⊎-elim}
 use native.Mathlib.Nat.{eq-or-lt-of-le}
 use native.Mathlib.Omega.{arith}
 use lib.ListN.{List·getD-eq-default}
-use Rattle.command.specs.Table.{table, commandAt}
+use Rattle.command.specs.Table.{table}
+use Rattle.command.specs.Inner.{commandAt}
 use Rattle.command.specs.declared.table.Command.the-variants.{SequenceRun}
 use borrow.Author.Needs.{needs}
 use Rattle.command.proofs.table.Command.at.Statement.{statement}
