@@ -19,6 +19,12 @@ JOBS = int(os.environ.get("RT_JOBS", "2"))
 PROVED, REFUSED, UNFIT = "proved", "refused", "unfit"
 
 
+def not_proved(folder, names):
+    """What stands in a crate's own folder beside what is proved."""
+    beside = {"must-fail", "wrong", "data"} if pathlib.Path(folder).parent == ROOT / "crates" else set()
+    return beside & set(names)
+
+
 def first_error(log):
     """The first error of a check's log, or the note that stands for it."""
     found = re.search(r"^\S+: error.*$", log, re.M) or re.search(r"^note: .*$", log, re.M) or re.search(r"^fn .*: no.*$", log, re.M)
@@ -50,7 +56,7 @@ class Crate:
         copy = self.work / label
         copy.mkdir(parents=True)
         shutil.copy(ROOT / "crates.txt", copy)
-        shutil.copytree(ROOT / "crates", copy / "crates", ignore=shutil.ignore_patterns("must-fail", "wrong", "data"))
+        shutil.copytree(ROOT / "crates", copy / "crates", ignore=not_proved)
         for part in ("rlib", "stamp"):
             shutil.copytree(ROOT / "target" / part, copy / "target" / part)
         return copy
