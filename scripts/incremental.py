@@ -74,6 +74,7 @@ class Crate:
         try:
             folder = copy / "target" / "inc" / self.name
             shutil.rmtree(folder, ignore_errors=True)
+            folder.parent.mkdir(exist_ok=True)
             subprocess.run(["cp", "-a", self.folder, folder], check=True)
             before = {}
             for path, text in texts.items():
