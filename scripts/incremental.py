@@ -33,7 +33,9 @@ def first_error(log):
 
 def misfit(log):
     """The proof no longer fits the code, so that the refusal says nothing of a promise."""
-    return "has no `Need-" in first_error(log)
+    first = first_error(log)
+    message = log[log.find(first):].split(": error", 2)
+    return re.search(r"has no `Need-|has no field", ": error".join(message[:2])) is not None
 
 
 class Crate:
