@@ -5,7 +5,7 @@ use mathlib.Core.Bool.{Bool, cond, _&&_}
 use mathlib.Core.List.{List, [], _∷_}
 use lib.Dec.{leb}
 use lib.ListN.{length, take, drop}
-use Rattle.packet.specs.Packet.{payloadLength}
+use Rattle.packet.specs.Packet.{payloadLength, rightSum}
 use Rattle.packet.specs.declared.stream.Next.{Next}
 use Rattle.packet.specs.declared.stream.Next.the-variants.{Packet, Nothing}
 
@@ -17,9 +17,9 @@ size b = 7 + payloadLength b
 unfoldable pub hasPacket : List ℕ → Bool
 hasPacket b = leb 7 (length b) && leb (size b) (length b)
 
--- what stands at the start of b: a packet of so many bytes, or none
+-- what stands at the start of b: a packet of so many bytes, its checksum right or not, or none
 unfoldable pub nextIn : List ℕ → Next
-nextIn b = cond (hasPacket b) (Packet (size b)) Nothing
+nextIn b = cond (hasPacket b) (Packet (size b) (rightSum b)) Nothing
 
 -- at most n packets from the start of b
 unfoldable pub packetsIn : ℕ → List ℕ → List (List ℕ)

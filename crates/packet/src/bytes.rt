@@ -38,7 +38,7 @@ pub(crate) fn sum_with(from: u8, b: &[u8]) -> u8
 }
 
 // Stores bytes from a place on. Those that find no room are dropped.
-pub(crate) fn store(into: &mut [u8], at: usize, b: &[u8])
+pub fn store(into: &mut [u8], at: usize, b: &[u8])
     ensures { λ _. ⌜ now (into .exit) ≡ sets (now (into .entry)) at (now (b .entry)) ⌝ }
 {
     let n = least(less(into.len(), at), b.len());

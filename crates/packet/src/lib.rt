@@ -18,6 +18,7 @@ mod receiver;
 // Writes a packet to a lent buffer.
 mod writer;
 
+pub use bytes::store;
 pub use number::word;
 pub use packet::BEGINNING;
 pub use packet::ERROR;
@@ -31,9 +32,9 @@ pub use packet::READ_RESPONSE;
 pub use packet::WHOLE;
 pub use packet::WRITE_RESPONSE;
 pub use packet::types_and_flags;
-pub use receiver::HOLD;
-pub use receiver::Receiver;
+pub use receiver::EVERY_BYTE;
 pub use receiver::Taken;
+pub use receiver::packet_in_rule;
 pub use receiver::receive;
 pub use stream::Next;
 pub use stream::next_packet;

@@ -4,45 +4,16 @@ use crate::bytes::less;
 use crate::bytes::store;
 use crate::bytes::sum_with;
 use crate::number::word;
+use crate::packet::FRAME;
 use crate::packet::HEADER;
 ghost use mathlib.Core.Path.{_≡_};
-ghost use Prim.Native.Nat.{_+_, _-_};
+ghost use Prim.Native.Nat.{_-_};
 ghost use lib.ListN.{drop};
 ghost use lib.Seq.{sets};
-ghost use Rattle.packet.specs.Receiver.{fresh as freshOf, receiverOf, receivedOf, receiving};
+ghost use Rattle.packet.specs.Receiver.{runningWith, receiverOf, receivedOf, receiving, packetInRule};
 
-// How many payload bytes of a transfer are held.
-pub const HOLD: usize = 1024;
-
-// What has come in of the current packet, and the hold of payload bytes. Between two packets
-// `received` and `sum` are 0, and header and hold are those of the last packet.
-#[repr(C)]
-pub struct Receiver {
-    // The header bytes.
-    pub header: [u8; HEADER],
-    // The sum of the bytes received of the current packet, modulo 256.
-    pub sum: u8,
-    // How many bytes of the current packet have come in.
-    pub received: usize,
-    // The payload bytes of the open transfer, and after them those of the current packet.
-    pub hold: [u8; HOLD],
-}
-
-impl Receiver {
-    pub const FRESH: Receiver = Receiver {
-        header: [0; HEADER],
-        sum: 0,
-        received: 0,
-        hold: [0; HOLD],
-    };
-
-    // A receiver between two packets, with nothing held.
-    pub fn fresh() -> Receiver
-        ensures { λ r. ⌜ r ≡ freshOf ⌝ }
-    {
-        Receiver::FRESH
-    }
-}
+// The first place that document 01's checksum covers: it is the sum of every earlier byte.
+pub const EVERY_BYTE: usize = 0;
 
 // What one call took, and the sum and the count of the current packet from now on. `right` tells
 // whether the checksum was, once a packet is complete.
@@ -54,29 +25,41 @@ pub struct Taken {
     pub received: usize,
 }
 
-// Stores the payload among the bytes b after those that are held; `received` bytes of the packet
-// came before b.
-fn keep(hold: &mut [u8; HOLD], held: usize, received: usize, b: &[u8])
-    ensures { λ _. ⌜ now (hold .exit) ≡ sets (now (hold .entry)) (held + (received - 6)) (drop (6 - received) (now (b .entry))) ⌝ }
+// The running sum with the bytes b, `received` bytes of the packet having come before them. It
+// covers the bytes from place `first` on and begins anew with the first of them.
+fn running_sum(first: usize, received: usize, sum: u8, b: &[u8]) -> u8
+    ensures { λ r. ⌜ r ≡ runningWith first received sum (now (b .entry)) ⌝ }
 {
-    let skip = least(less(HEADER, received), b.len());
-    // Each part is cut at the hold's end, where nothing is stored, so that the sum cannot wrap.
-    let at = least(held, HOLD) + least(less(received, HEADER), HOLD);
-    store(hold, at, &b[skip..]);
+    let skip = less(first, received);
+    if b.len() <= skip {
+        return sum;
+    }
+    if received <= first {
+        return sum_with(0, &b[skip..]);
+    }
+    sum_with(sum, b)
 }
 
-// Takes bytes until the input ends or one packet is complete, on the parts of a receiver. Payload
-// bytes go to the hold from place `held` on; those that find no room there are counted, summed and
-// dropped.
+// Stores the payload among the bytes b; `received` bytes of the packet came before b.
+fn keep(hold: &mut [u8], received: usize, b: &[u8])
+    ensures { λ _. ⌜ now (hold .exit) ≡ sets (now (hold .entry)) (received - 6) (drop (6 - received) (now (b .entry))) ⌝ }
+{
+    let skip = least(less(HEADER, received), b.len());
+    store(hold, less(received, HEADER), &b[skip..]);
+}
+
+// Takes bytes until the input ends or one packet is complete, on the parts of a receiver. The
+// checksum covers the packet's bytes from place `first` on. Payload bytes that find no room in the
+// hold are counted, summed and dropped.
 pub fn receive(
     header: &mut [u8; HEADER],
     sum: u8,
     received: usize,
-    hold: &mut [u8; HOLD],
-    held: usize,
+    hold: &mut [u8],
+    first: usize,
     input: &[u8],
 ) -> Taken
-    ensures { λ t. ⌜ receivedOf t (now (header .exit)) (now (hold .exit)) ≡ receiving (receiverOf (now (header .entry)) sum received (now (hold .entry))) held (now (input .entry)) ⌝ }
+    ensures { λ t. ⌜ receivedOf t (now (header .exit)) (now (hold .exit)) ≡ receiving first (receiverOf (now (header .entry)) sum received (now (hold .entry))) (now (input .entry)) ⌝ }
 {
     store(header, received, input);
     // How many bytes come before the checksum, and how many of these the input has. The header may
@@ -84,8 +67,8 @@ pub fn receive(
     let before = less(HEADER + word(header[4], header[5]), received);
     let n = least(before, input.len());
     let b = &input[..n];
-    let total = sum_with(sum, b);
-    keep(hold, held, received, b);
+    let total = running_sum(first, received, sum, b);
+    keep(hold, received, b);
     if before < input.len() {
         return Taken {
             taken: before + 1,
@@ -102,4 +85,11 @@ pub fn receive(
         sum: total,
         received: received + n,
     }
+}
+
+// The current packet has not all its bytes.
+pub fn packet_in_rule(header: [u8; HEADER], received: usize) -> bool
+    ensures { λ r. ⌜ r ≡ packetInRule header received ⌝ }
+{
+    received < FRAME + word(header[4], header[5])
 }

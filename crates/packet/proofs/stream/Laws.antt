@@ -1,14 +1,15 @@
 -- Laws of framing: the packets of a list of bytes.
-use Prim.Native.Nat.{ℕ, zero, suc, _+_, _*_, _<_, _≤_}
+use Prim.Native.Nat.{ℕ, zero, suc, _+_, _*_, _-_, _<_, _≤_}
 use mathlib.Core.Path.{_≡_, refl, ap, ap₂, sym, _∙_, subst}
-use mathlib.Core.Bool.{true, false, and-false}
+use mathlib.Core.Bool.{Bool, true, false, and-false}
 use mathlib.Core.List.{List, [], _∷_, _++_, append-assoc}
 use native.Mathlib.Omega.{arith}
-use lib.Dec.{leb}
+use lib.Dec.{eqb, leb}
 use borrow.Author.Tests.{leb-true, le-leb, lt-leb}
 use lib.ListN.{length, take, drop, getD, length-append, take-append-drop, length-drop, List·getD-append}
-use lib.Seq.{drop-append-add, take-at, drop-at, getD-drop, length-take-le}
+use lib.Seq.{drop-append-add, take-at, drop-at, getD-drop, getD-take, take-take, length-take-le}
 use Rattle.packet.specs.Number.{Bytes}
+use Rattle.packet.specs.Packet.{payloadLength, checksum, rightSum}
 use Rattle.packet.specs.Stream.{nextIn, size, hasPacket, packetsIn, packets, bytesIn, rest}
 use Rattle.packet.specs.declared.stream.Next.the-variants.{Packet, Nothing}
 use Rattle.packet.proofs.Cases.{cond-cases, bool-cases, and-right, and-both}
@@ -175,8 +176,22 @@ module _ (b : List ℕ) (at : ℕ) where
   unfolding nextIn
   none-ended e l = rw (no-end (drop at b) (simp length-drop (omega (arith, size-at e))))
 
-  pub next-at : {n : ℕ} → n ≡ getD b (at + 4) 0 + 256 * getD b (at + 5) 0 → at + (7 + n) ≤ length b → Packet (7 + n) ≡ nextIn (drop at b)
+  -- the checksum of the packet p that stands there
+  right-at : {p : List ℕ} → hasPacket (drop at b) ≡ true → p ≡ take (size (drop at b)) (drop at b)
+      → eqb (getD p (length p - 1) 0) (checksum (take (length p - 1) p)) ≡ rightSum (drop at b)
+  unfolding rightSum size
+  right-at {p} h e =
+      let d : List ℕ = drop at b in
+      let n : ℕ = 6 + payloadLength d in
+      let l : length p ≡ 7 + payloadLength d = ap length e ∙ length-take-le (7 + payloadLength d) d (size-within d h) in
+      let m : length p - 1 ≡ n = omega arith in
+      rw (m, e, getD-take (7 + payloadLength d) d n 0 (omega arith), take-take n (7 + payloadLength d) d (omega arith))
+
+  pub next-at : {n : ℕ} {right : Bool} {p : List ℕ} → n ≡ getD b (at + 4) 0 + 256 * getD b (at + 5) 0 → at + (7 + n) ≤ length b
+      → p ≡ take (7 + n) (drop at b)
+      → right ≡ eqb (getD p (length p - 1) 0) (checksum (take (length p - 1) p)) → Packet (7 + n) right ≡ nextIn (drop at b)
   unfolding nextIn
-  next-at e l =
-      rw
-      (has-packet (drop at b) (simp length-drop (omega arith)) (simp length-drop (omega (arith, size-at e))), size-at e)
+  next-at {n} {right} {p} e l f g =
+      let h : hasPacket (drop at b) ≡ true = has-packet (drop at b) (simp length-drop (omega arith)) (simp length-drop (omega (arith, size-at e))) in
+      let q : p ≡ take (size (drop at b)) (drop at b) = f ∙ ap (λ (i : ℕ). take i (drop at b)) (sym (size-at e)) in
+      rw (h, size-at e, g, right-at h q)

@@ -1,5 +1,8 @@
 -- `next_packet` meets its contract.
+use Prim.Native.Nat.{ℕ, _+_, _-_}
+use mathlib.Core.Path.{_≡_, ap}
 use native.Mathlib.Omega.{arith}
+use lib.ListN.{take, drop}
 use denote.Ref.{now}
 use Rattle.packet.proofs.stream.Laws.{none-begun, none-ended, next-at}
 use borrow.Author.Needs.{needs}
@@ -18,6 +21,10 @@ next-packet-spec =
     (λ c.
     let a = c .before .before .before .before .before .before .before .args in
     none-ended (now (a .b)) (a .at) (c .before .word .ensures .0) (omega arith))
+    (λ c. search needs) (λ c. search needs) (λ c. search needs) (λ c. search needs) (λ c κs. search needs)
     (λ c.
-    let a = c .before .before .before .before .before .before .before .args in
-    next-at (now (a .b)) (a .at) (c .before .word .ensures .0) (omega arith)))
+    let w = c .before .before .before in
+    let a = w .before .before .before .before .before .before .args in
+    let n = w .word .result in
+    let e : a .at + (7 + n) - a .at ≡ 7 + n = omega arith in
+    next-at (now (a .b)) (a .at) (w .word .ensures .0) (omega arith) (ap (λ (m : ℕ). take m (drop (a .at) (now (a .b)))) e) (c .right-sum .ensures)))
