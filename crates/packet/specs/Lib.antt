@@ -4,4 +4,5 @@ pub mod Packet
 pub mod Stream
 pub mod Receiver
 pub mod Writer
+pub mod Answer
 pub mod Calls

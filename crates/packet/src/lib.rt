@@ -18,6 +18,10 @@ mod receiver;
 // Writes a packet to a lent buffer.
 mod writer;
 
+// What a receive call answers.
+mod answer;
+
+pub use answer::Answer;
 pub use bytes::store;
 pub use number::word;
 pub use packet::BEGINNING;
