@@ -21,7 +21,7 @@ use Rattle.command.specs.declared.table.Found.{Found}
 use Rattle.command.specs.declared.settings.Settings.{Settings}
 use Rattle.command.specs.declared.faults.Codes.{Codes}
 use Rattle.command.specs.declared.judgement.Judgement.{Judgement}
-use Rattle.command.specs.declared.judgement.Judgement.the-variants.{Refuse, Hold, Write, Read}
+use Rattle.command.specs.declared.judgement.Judgement.the-variants.{Error, Hold, Write, Read}
 use Rattle.command.specs.declared.controller.Controller.{Controller}
 use Rattle.command.proofs.judgement.Laws.{judge-cases}
 
@@ -62,7 +62,7 @@ pub data Called (f : Found) (t : Transfer) (p : Arrived) (k : Codes) : Type 0 wh
 
 -- what a judgement says if it is a refusal
 abbrev IfRefused : (Codes → Type 0) → Judgement → Type 0
-IfRefused P (Refuse k) = P k
+IfRefused P (Error k) = P k
 IfRefused P (Hold c) = Unit {0}
 IfRefused P (Write v) = Unit {0}
 IfRefused P (Read c) = Unit {0}
@@ -93,7 +93,7 @@ bad-packet a p k h =
 
 -- the packets that draw an error
 abbrev pub isError : Judgement → Bool
-isError (Refuse k) = true
+isError (Error k) = true
 isError (Hold c) = false
 isError (Write v) = false
 isError (Read c) = false
@@ -103,7 +103,7 @@ allErrors [] = true
 allErrors (j ∷ js) = isError j && allErrors js
 
 error-leaves : (s : Settings) (j : Judgement) → isError j ≡ true → settingsAfter s j ≡ s
-error-leaves s (Refuse k) h = refl
+error-leaves s (Error k) h = refl
 error-leaves s (Hold c) h = refl
 error-leaves s (Write v) h = let z : _≡_ {A = ℕ} 0 1 = cc in absurd (omega arith)
 error-leaves s (Read c) h = refl

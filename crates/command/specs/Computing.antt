@@ -9,10 +9,10 @@ use Rattle.command.specs.Settings.{factory, valuesAfter, store}
 use Rattle.command.specs.Data.{splitAll, joinAll}
 use Rattle.command.specs.Value.{dataOf}
 use Rattle.command.specs.Faults.{wrongCommand, tooLong, wrongOrder, faultsOf, faults, anyFault, listIf, codesOf}
-use Rattle.command.specs.Judgement.{judgeWrite, judgeRead, judgeData, judge}
+use Rattle.command.specs.Judgement.{judgeWrite, judgeRead, judgeData, judgeAs, judge}
 use Rattle.command.specs.Response.{response}
 use Rattle.command.specs.Player.{judged, next, judgements, responses, after, play, allAcknowledged, clean}
 
 unfoldable pub playing : Unit {0}
-unfolding joined valueOf bytesOf payload sum checksum rightSum sealed packetOf size hasPacket packetsIn packets bytesIn rest find commandOf sizeOf factory blocked valuesAfter store splitAll joinAll dataOf wrongCommand tooLong wrongOrder faultsOf faults anyFault listIf codesOf judgeWrite judgeRead judgeData judge response judged next judgements responses after play allAcknowledged clean
+unfolding joined valueOf bytesOf payload sum checksum rightSum sealed packetOf size hasPacket packetsIn packets bytesIn rest find commandOf sizeOf factory blocked valuesAfter store splitAll joinAll dataOf wrongCommand tooLong wrongOrder faultsOf faults anyFault listIf codesOf judgeWrite judgeRead judgeData judgeAs judge response judged next judgements responses after play allAcknowledged clean
 playing = tt

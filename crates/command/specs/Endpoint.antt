@@ -1,55 +1,50 @@
 -- The receive call: when it refuses, and what it answers and leaves.
-use Prim.Native.Nat.{ℕ, _+_}
+use Prim.Native.Nat.{ℕ}
 use mathlib.Core.Bool.{cond}
 use mathlib.Core.List.{List}
 use lib.Dec.{ltb}
-use lib.ListN.{length}
+use lib.ListN.{length, take}
+use Rattle.packet.specs.Answer.{Outcome, Refuses, Waits, Answers}
 use Rattle.packet.specs.Packet.{payloadLength}
-use Rattle.packet.specs.Receiver.{Received, receiving}
+use Rattle.packet.specs.Receiver.{Receiver, Received, receiving}
 use Rattle.packet.specs.Writer.{written}
 use Rattle.command.specs.Faults.{Arrived}
 use Rattle.command.specs.Judgement.{judge}
 use Rattle.command.specs.Carry.{settingsAfter}
 use Rattle.command.specs.Response.{response}
-use Rattle.command.specs.Controller.{heldIn, transferIn, packetIn, transferStateAfter, inRule}
+use Rattle.command.specs.Controller.{transferIn, receiverIn, packetIn, transferStateAfter, bufferAfter, inRule}
+use Rattle.command.specs.declared.settings.Settings.{Settings}
+use Rattle.command.specs.declared.transfer.TransferState.{TransferState}
 use Rattle.command.specs.declared.judgement.Judgement.{Judgement}
+use Rattle.command.specs.declared.controller.Registers.{Registers}
 use Rattle.command.specs.declared.controller.Controller.{Controller}
-use Rattle.command.specs.declared.endpoint.Answer.{Answer}
-use Rattle.command.specs.declared.endpoint.Answer.the-variants.{Waiting, Answered, ShortOutput, OutOfRule}
 
--- What a receive call answers, in the numbers of document 01: a refusal's number; "waiting" and the bytes taken; "answered", the bytes taken and the response's length.
-pub data Outcome : Type 0 where
-  Refuses : ℕ → Outcome
-  Waits : ℕ → Outcome
-  Answers : ℕ → ℕ → Outcome
-
-abbrev pub outcomeOf : Answer → Outcome
-outcomeOf ShortOutput = Refuses 1
-outcomeOf OutOfRule = Refuses 3
-outcomeOf (Waiting n) = Waits n
-outcomeOf (Answered n m) = Answers n m
-
--- the bytes taken by the receiver
+-- the bytes taken by the receiver; the checksum covers every byte of a packet, from place 0 on
 abbrev pub takenBy : Controller → List ℕ → Received
-takenBy c input = receiving (c .receiver) (heldIn (c .transfer)) input
+takenBy c input = receiving 0 (receiverIn c) input
 
--- the packet that is complete, n bytes having been held before it; how it is judged; and what it draws
-abbrev pub arrivedIn : ℕ → Received → Arrived
-arrivedIn n t = packetIn n (t .receiver .header) (t .right) (t .receiver .hold)
+-- the packet that is complete in a receiver, its checksum right or not: "at most 1,024 payload bytes are held"
+abbrev pub arrivedIn : Received → Arrived
+arrivedIn t = packetIn (t .receiver .header) (t .right) (take (payloadLength (t .receiver .header)) (t .receiver .hold))
 
+-- how it is judged, and what it draws
 unfoldable pub judgedIn : Controller → Received → Judgement
-judgedIn c t = judge (c .settings .mode) (transferIn (c .transfer) (t .receiver .hold)) (arrivedIn (heldIn (c .transfer)) t)
+judgedIn c t = judge (c .registers .settings .mode) (transferIn (c .registers .transfer) (c .buffer)) (arrivedIn t)
 
 unfoldable pub responseIn : Controller → Received → List ℕ
-responseIn c t = response (c .settings) (arrivedIn (heldIn (c .transfer)) t) (judgedIn c t)
+responseIn c t = response (c .registers .settings) (arrivedIn t) (judgedIn c t)
+
+-- the registers of these settings, this transfer and this receiver
+abbrev pub registersOf : Settings → TransferState → Receiver → Registers
+registersOf s t r = record { settings = s; transfer = t; header = r .header; sum = r .running; received = r .received }
 
 -- the judgement carried out
 abbrev pub carriedOut : Controller → Received → Judgement → Controller
 carriedOut c t j =
     record {
-      settings = settingsAfter (c .settings) j;
-      transfer = transferStateAfter (c .transfer) (heldIn (c .transfer) + payloadLength (t .receiver .header)) j;
-      receiver = t .receiver;
+      registers = registersOf (settingsAfter (c .registers .settings) j) (transferStateAfter (c .registers .transfer) (arrivedIn t .body) j) (t .receiver);
+      buffer = bufferAfter (c .registers .transfer) (c .buffer) (arrivedIn t .body) j;
+      hold = t .receiver .hold;
     }
 
 -- The receive call: the answer, the controller afterwards, and the output.
@@ -67,7 +62,8 @@ abbrev pub waiting : Controller → Received → List ℕ → After
 waiting c t out =
     record {
       answer = Waits (t .taken);
-      controller = record { settings = c .settings; transfer = c .transfer; receiver = t .receiver };
+      controller =
+          record { registers = registersOf (c .registers .settings) (c .registers .transfer) (t .receiver); buffer = c .buffer; hold = t .receiver .hold };
       output = out;
     }
 

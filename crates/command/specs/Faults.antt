@@ -1,4 +1,4 @@
--- The first group of faults of a complete packet, the codes that come alone, and the bytes that report them.
+-- The first group of faults of a complete packet, the codes that come alone, and the bytes that report them. Codes have the names that source document 002 gives them.
 use Prim.Native.Nat.{ℕ, _+_}
 use mathlib.Core.Bool.{Bool, true, false, cond, not, _&&_, _||_}
 use mathlib.Core.List.{List, [], _∷_}
@@ -45,44 +45,48 @@ wrongCommand c type = not (eqb type hostWrite || eqb type hostRead) || not (isKn
 
 -- 04: payload length over 1,024; or flags 02 or 03 with a transfer open and held bytes plus this payload over 1,024
 unfoldable pub tooLong : Bool → ℕ → ℕ → ℕ → Bool
-tooLong isOpen held flags size = ltb 1024 size || (continues flags && isOpen && ltb 1024 (held + size))
+tooLong opened n flags size = ltb 1024 size || (continues flags && opened && ltb 1024 (n + size))
 
 -- 0B: flags over 03; a type other than 02 with nonzero flags; flags 02 or 03 with no transfer open or one open for another command;
 -- flags 00 or 01 while a transfer is open
 unfoldable pub wrongOrder : Bool → Bool → ℕ → ℕ → Bool
-wrongOrder isOpen openFor type flags =
-    ltb 3 flags || (not (eqb type hostWrite) && not (eqb flags whole)) || (continues flags && not openFor) || ((eqb flags whole || eqb flags beginning) && isOpen)
+wrongOrder opened ours type flags =
+    ltb last flags || (not (eqb type hostWrite) && not (eqb flags whole)) || (continues flags && not ours) || ((eqb flags whole || eqb flags beginning) && opened)
 
--- the codes of the first group; 09: checksum wrong
+-- the codes of the first group, with a transfer open or not, for this command or not, and n bytes held; 09: checksum wrong
 unfoldable pub faultsOf : Found → Bool → Bool → ℕ → ℕ → ℕ → ℕ → Bool → Codes
-faultsOf c isOpen openFor held type flags size right =
+faultsOf c opened ours n type flags size right =
     record {
       command = wrongCommand c type;
-      value = false;
-      length = tooLong isOpen held flags size;
-      mode = false;
+      parameter = false;
+      memory = tooLong opened n flags size;
+      precondition = false;
       checksum = not right;
-      size = false;
-      order = wrongOrder isOpen openFor type flags;
+      format = false;
+      continuation = wrongOrder opened ours type flags;
     }
 
 -- those of a packet, with a transfer open or none
 unfoldable pub faults : Found → Transfer → Arrived → Codes
 faults c t p = faultsOf c (isOpen t) (openFor c t) (length (held t)) (p .type) (p .flags) (p .size) (p .right)
 
+-- one of the first group holds
 unfoldable pub anyFault : Codes → Bool
-anyFault k = k .command || k .length || k .checksum || k .order
+anyFault k = k .command || k .memory || k .checksum || k .continuation
 
 -- Only with none of these: 0A, then 03, then 07, each alone.
 
 abbrev pub sizeFault : Codes
-sizeFault = record { command = false; value = false; length = false; mode = false; checksum = false; size = true; order = false }
+sizeFault =
+    record { command = false; parameter = false; memory = false; precondition = false; checksum = false; format = true; continuation = false }
 
 abbrev pub valueFault : Codes
-valueFault = record { command = false; value = true; length = false; mode = false; checksum = false; size = false; order = false }
+valueFault =
+    record { command = false; parameter = true; memory = false; precondition = false; checksum = false; format = false; continuation = false }
 
 abbrev pub modeFault : Codes
-modeFault = record { command = false; value = false; length = false; mode = true; checksum = false; size = false; order = false }
+modeFault =
+    record { command = false; parameter = false; memory = false; precondition = true; checksum = false; format = false; continuation = false }
 
 -- a code if its fault holds, and then others
 unfoldable pub listIf : Bool → ℕ → List ℕ → List ℕ
@@ -92,9 +96,9 @@ listIf b n l = cond b (n ∷ l) l
 unfoldable pub codesOf : Codes → List ℕ
 codesOf k =
     listIf (k .command) 0x02
-    (listIf (k .value) 0x03
-    (listIf (k .length) 0x04
-    (listIf (k .mode) 0x07
+    (listIf (k .parameter) 0x03
+    (listIf (k .memory) 0x04
+    (listIf (k .precondition) 0x07
     (listIf (k .checksum) 0x09
-    (listIf (k .size) 0x0A
-    (listIf (k .order) 0x0B []))))))
+    (listIf (k .format) 0x0A
+    (listIf (k .continuation) 0x0B []))))))

@@ -7,10 +7,10 @@ use lib.Dec.{eqb}
 use lib.ListN.{length, take, getD}
 use Rattle.packet.specs.Number.{bytesOf}
 use Rattle.command.specs.Table.{table, hasCode, layout, sizeOf}
-use Rattle.command.specs.Rules.{settingsInRule}
 use Rattle.command.specs.Data.{splitAll}
 use Rattle.command.specs.Value.{valueFrom}
-use Rattle.command.specs.Controller.{transferInRule, packetInRule}
+use Rattle.command.specs.Player.{State}
+use Rattle.command.specs.Controller.{transferIn, receiverIn}
 use Rattle.command.specs.Endpoint.{After, answered}
 use Rattle.command.specs.declared.table.Command.{Command}
 use Rattle.command.specs.declared.table.Command.the-variants.{SequenceRun}
@@ -19,9 +19,10 @@ use Rattle.command.specs.declared.table.Found.the-variants.{Known, Unkno
 use Rattle.command.specs.declared.value.Parsed.{Parsed}
 use Rattle.command.specs.declared.value.Parsed.the-variants.{Values, WrongSize}
 use Rattle.command.specs.declared.data.Data.{Data}
+use Rattle.command.specs.declared.settings.Settings.{Settings}
 use Rattle.command.specs.declared.transfer.TransferState.{TransferState}
 use Rattle.command.specs.declared.controller.Controller.{Controller}
-use Rattle.command.specs.declared.controller.Parts.{Parts}
+use Rattle.command.specs.declared.controller.Registers.{Registers}
 
 -- the command in line k of the table, from 0; past the end, the last
 abbrev pub commandAt : ℕ → Command
@@ -56,12 +57,12 @@ parsed c d = cond (eqb (length d) (sizeOf c)) (Values (valueFrom c (splitAll (la
 
 -- the bytes of d that count: those that a packet is written with (the contract of emit)
 abbrev pub contents : Data → List ℕ
-contents d = take (d .length) (d .bytes)
+contents d = take (d .count) (d .bytes)
 
 -- d holds these bytes, and no more than it has room for
 pub record Holds (d : Data) (b : List ℕ) : Type 0 where
   pub bytes : contents d ≡ b
-  pub room : d .length ≤ 17
+  pub room : d .count ≤ 17
 
 -- The open transfer by the controller's numbers: those of specs/Transfer by the laws open-is and open-for-is of transfer/Laws.
 
@@ -73,20 +74,15 @@ abbrev pub openForIn : Found → TransferState → Bool
 openForIn Unknown t = false
 openForIn (Known c) t = isOpenIn t && hasCode (t .cmd1) (t .cmd2) c
 
--- A controller whose hold is lent apart from its other parts: the contracts of serve and receive state receiveCall of it.
+-- the state of the head by its settings, its transfer's numbers and the array of the transfer's data: stateOf of a controller that has these
+abbrev pub stateIn : Settings → TransferState → List ℕ → State
+stateIn s t buffer = record { settings = s; transfer = transferIn t buffer }
 
-abbrev pub controllerOf : Parts → List ℕ → Controller
-controllerOf p hold =
-    record {
-      settings = p .settings;
-      transfer = p .transfer;
-      receiver = record { header = p .header; sum = p .sum; received = p .received; hold = hold };
-    }
+-- A controller whose arrays are lent apart from its registers: the contracts of serve and receive state receiveCall of it.
 
--- what refusal 3 lets pass, by the parts: inRule of the controller that they make (law parts-in-rule of controller/Laws)
-abbrev pub partsInRule : Parts → Bool
-partsInRule p = settingsInRule (p .settings) && transferInRule (p .transfer) && packetInRule (p .header) (p .received)
+abbrev pub controllerOf : Registers → List ℕ → List ℕ → Controller
+controllerOf r buffer hold = record { registers = r; buffer = buffer; hold = hold }
 
 -- what a call answers and leaves once its packet is complete in the receiver, the checksum right or not and n bytes taken (law answers of endpoint/advance)
 abbrev pub settled : Controller → Bool → ℕ → List ℕ → After
-settled c right n out = answered c (record { taken = n; complete = true; right = right; receiver = c .receiver }) out
+settled c right n out = answered c (record { taken = n; complete = true; right = right; receiver = receiverIn c }) out

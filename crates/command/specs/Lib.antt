@@ -10,9 +10,9 @@ pub mod Faults
 pub mod Judgement
 pub mod Carry
 pub mod Response
+pub mod Player
 pub mod Controller
 pub mod Endpoint
-pub mod Player
 pub mod Encoder
 pub mod Inner
 pub mod Computing

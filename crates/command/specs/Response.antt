@@ -1,31 +1,29 @@
 -- The response that a judgement draws.
 use Prim.Native.Nat.{ℕ}
-use mathlib.Core.Bool.{Bool, true, false}
+use mathlib.Core.Bool.{Bool}
 use mathlib.Core.List.{List, []}
+use lib.Dec.{eqb}
 use Rattle.packet.specs.Packet.{packetOf, error, writeResponse, readResponse, whole}
 use Rattle.command.specs.Value.{dataOf}
 use Rattle.command.specs.Faults.{Arrived, codesOf}
 use Rattle.command.specs.declared.settings.Settings.{Settings}
 use Rattle.command.specs.declared.judgement.Judgement.{Judgement}
-use Rattle.command.specs.declared.judgement.Judgement.the-variants.{Refuse, Hold, Write, Read}
-
--- a packet is acknowledged when it draws a write response
-abbrev pub acknowledged : Judgement → Bool
-acknowledged (Refuse k) = false
-acknowledged (Hold c) = true
-acknowledged (Write v) = true
-acknowledged (Read c) = false
+use Rattle.command.specs.declared.judgement.Judgement.the-variants.{Error, Hold, Write, Read}
 
 -- The response: its type and its payload. It repeats the CMD1 and CMD2 received, with flags 00.
 
 abbrev pub responseType : Judgement → ℕ
-responseType (Refuse k) = error
+responseType (Error k) = error
 responseType (Hold c) = writeResponse
 responseType (Write v) = writeResponse
 responseType (Read c) = readResponse
 
+-- "a packet is acknowledged when it draws a write response"
+abbrev pub acknowledged : Judgement → Bool
+acknowledged j = eqb (responseType j) writeResponse
+
 abbrev pub responseData : Settings → Judgement → List ℕ
-responseData s (Refuse k) = codesOf k
+responseData s (Error k) = codesOf k
 responseData s (Hold c) = []
 responseData s (Write v) = []
 responseData s (Read c) = dataOf c s
@@ -35,7 +33,7 @@ response s p j = packetOf (responseType j) (p .cmd1) (p .cmd2) whole (responseDa
 
 -- the codes that a judgement draws: none where the packet is acknowledged or read
 abbrev pub codesIn : Judgement → List ℕ
-codesIn (Refuse k) = codesOf k
+codesIn (Error k) = codesOf k
 codesIn (Hold c) = []
 codesIn (Write v) = []
 codesIn (Read c) = []

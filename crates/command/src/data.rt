@@ -33,42 +33,57 @@ pub(crate) fn long_at(d: &[u8], at: usize) -> u32
 // The longest data of a command, 04 00's.
 const ROOM: usize = 17;
 
-// Data that are put together: the first bytes count.
+// Data that are put together: the first `count` bytes are theirs.
 pub(crate) struct Data {
     pub(crate) bytes: [u8; ROOM],
-    pub(crate) length: usize,
+    pub(crate) count: usize,
+}
+
+// The data in two parts, joined.
+pub(crate) fn joined(first: &[u8], second: &[u8]) -> Data
+    requires { ⌜ length (now first) + length (now second) ≤ 17 ⌝ }
+    ensures { λ r. ⌜ (contents r ≡ now (first .entry) ++ now (second .entry)) × (r .count ≡ length (now (first .entry)) + length (now (second .entry))) ⌝ }
+{
+    let mut bytes = [0u8; ROOM];
+    let n = first.len();
+    packet::store(&mut bytes, 0, first);
+    packet::store(&mut bytes, n, second);
+    Data {
+        bytes,
+        count: n + second.len(),
+    }
 }
 
 impl Data {
     pub(crate) const EMPTY: Data = Data {
         bytes: [0; ROOM],
-        length: 0,
+        count: 0,
     };
 
     // One byte more.
     pub(crate) fn byte(self, b: u8) -> Data
-        requires { ⌜ self .length + 1 ≤ 17 ⌝ }
-        ensures { λ r. ⌜ (contents r ≡ contents self ++ bytesOf 1 b) × (r .length ≡ self .length + 1) ⌝ }
+        requires { ⌜ self .count + 1 ≤ 17 ⌝ }
+        ensures { λ r. ⌜ (contents r ≡ contents self ++ bytesOf 1 b) × (r .count ≡ self .count + 1) ⌝ }
     {
-        let at = self.length;
+        let at = self.count;
         let mut more = self;
         more.bytes[at] = b;
-        more.length = at + 1;
+        more.count = at + 1;
         more
     }
 
     // A number of two bytes more.
     pub(crate) fn word(self, v: u16) -> Data
-        requires { ⌜ self .length + 2 ≤ 17 ⌝ }
-        ensures { λ r. ⌜ (contents r ≡ contents self ++ bytesOf 2 v) × (r .length ≡ self .length + 2) ⌝ }
+        requires { ⌜ self .count + 2 ≤ 17 ⌝ }
+        ensures { λ r. ⌜ (contents r ≡ contents self ++ bytesOf 2 v) × (r .count ≡ self .count + 2) ⌝ }
     {
         self.byte((v % 256) as u8).byte((v / 256) as u8)
     }
 
     // A number of four bytes more.
     pub(crate) fn long(self, v: u32) -> Data
-        requires { ⌜ self .length + 4 ≤ 17 ⌝ }
-        ensures { λ r. ⌜ (contents r ≡ contents self ++ bytesOf 4 v) × (r .length ≡ self .length + 4) ⌝ }
+        requires { ⌜ self .count + 4 ≤ 17 ⌝ }
+        ensures { λ r. ⌜ (contents r ≡ contents self ++ bytesOf 4 v) × (r .count ≡ self .count + 4) ⌝ }
     {
         self.word((v % 65536) as u16).word((v / 65536) as u16)
     }

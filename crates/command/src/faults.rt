@@ -1,8 +1,8 @@
 // The error codes, and the first group of faults: 02, 04, 09 and 0B, which are reported together.
 use crate::table::Found;
+use crate::transfer::HOLD;
 use crate::transfer::TransferState;
 use packet::HEADER;
-use packet::HOLD;
 ghost use mathlib.Core.Path.{_≡_};
 ghost use mathlib.Core.Bool.{true};
 ghost use Prim.Native.Nat.{_≤_, _<_};
@@ -11,63 +11,63 @@ ghost use Rattle.command.specs.Inner.{isOpenIn, openForIn};
 ghost use Rattle.command.specs.Controller.{heldIn, transferInRule};
 ghost use Rattle.command.specs.Faults.{faultsOf, wrongCommand, tooLong, wrongOrder, anyFault};
 
-// The error codes: which of them hold.
+// The error codes, by the names that the command guide gives them: which of them hold.
 pub(crate) struct Codes {
     // 02
     pub command: bool,
     // 03
-    pub value: bool,
+    pub parameter: bool,
     // 04
-    pub length: bool,
+    pub memory: bool,
     // 07
-    pub mode: bool,
+    pub precondition: bool,
     // 09
     pub checksum: bool,
     // 0A
-    pub size: bool,
+    pub format: bool,
     // 0B
-    pub order: bool,
+    pub continuation: bool,
 }
 
 impl Codes {
     // 0A alone.
     pub(crate) const SIZE: Codes = Codes {
         command: false,
-        value: false,
-        length: false,
-        mode: false,
+        parameter: false,
+        memory: false,
+        precondition: false,
         checksum: false,
-        size: true,
-        order: false,
+        format: true,
+        continuation: false,
     };
 
     // 03 alone.
     pub(crate) const VALUE: Codes = Codes {
         command: false,
-        value: true,
-        length: false,
-        mode: false,
+        parameter: true,
+        memory: false,
+        precondition: false,
         checksum: false,
-        size: false,
-        order: false,
+        format: false,
+        continuation: false,
     };
 
     // 07 alone.
     pub(crate) const MODE: Codes = Codes {
         command: false,
-        value: false,
-        length: false,
-        mode: true,
+        parameter: false,
+        memory: false,
+        precondition: true,
         checksum: false,
-        size: false,
-        order: false,
+        format: false,
+        continuation: false,
     };
 
     // A fault of the first group holds.
-    pub(crate) fn any(self) -> bool
+    pub(crate) fn first_group(self) -> bool
         ensures { λ r. ⌜ r ≡ anyFault self ⌝ }
     {
-        self.command | self.length | self.checksum | self.order
+        self.command | self.memory | self.checksum | self.continuation
     }
 }
 
@@ -127,11 +127,11 @@ pub(crate) fn faults(found: Found, t: TransferState, header: [u8; HEADER], right
     let held = t.held();
     Codes {
         command: wrong_command(found, kind),
-        value: false,
-        length: too_long(active, held, flags, size),
-        mode: false,
+        parameter: false,
+        memory: too_long(active, held, flags, size),
+        precondition: false,
         checksum: !right,
-        size: false,
-        order: wrong_order(active, ours, kind, flags),
+        format: false,
+        continuation: wrong_order(active, ours, kind, flags),
     }
 }

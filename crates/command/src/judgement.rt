@@ -15,12 +15,14 @@ ghost use mathlib.Core.Path.{_≡_};
 ghost use Rattle.packet.specs.Packet.{typeOf, flagsOf};
 ghost use Rattle.command.specs.Judgement.{judgeData as judgeDataOf, judgeRead as judgeReadOf, judgeWrite as judgeWriteOf, judge as judgeOf};
 ghost use mathlib.Core.Bool.{true};
+ghost use mathlib.Core.List.{_++_};
+ghost use Prim.Native.Nat.{_≤_, _<_};
 ghost use lib.ListN.{length};
-ghost use Rattle.command.specs.Controller.{transferIn, packetIn, heldIn, transferInRule};
+ghost use Rattle.command.specs.Controller.{transferIn, packetIn, transferInRule};
 
 pub(crate) enum Judgement {
     // An error packet with these codes.
-    Refuse(Codes),
+    Error(Codes),
     // Bytes of a transfer for this command, to be held.
     Hold(Command),
     // A write to be carried out.
@@ -29,18 +31,19 @@ pub(crate) enum Judgement {
     Read(Command),
 }
 
-// The data of a write are complete.
-fn judge_write(c: Command, mode: u8, d: &[u8]) -> Judgement
-    ensures { λ r. ⌜ r ≡ judgeWriteOf c mode (now (d .entry)) ⌝ }
+// The data of a write are complete: what is held, and the payload.
+fn judge_write(c: Command, mode: u8, held: &[u8], payload: &[u8]) -> Judgement
+    requires { ⌜ (length (now held) ≤ 1024) × (length (now payload) < 65536) ⌝ }
+    ensures { λ r. ⌜ r ≡ judgeWriteOf c mode (now (held .entry) ++ now (payload .entry)) ⌝ }
 {
-    let Parsed::Values(v) = parse(c, d) else {
-        return Judgement::Refuse(Codes::SIZE);
+    let Parsed::Values(v) = parse(c, held, payload) else {
+        return Judgement::Error(Codes::SIZE);
     };
     if !allowed(v) {
-        return Judgement::Refuse(Codes::VALUE);
+        return Judgement::Error(Codes::VALUE);
     }
     if blocked(v, mode) {
-        return Judgement::Refuse(Codes::MODE);
+        return Judgement::Error(Codes::MODE);
     }
     Judgement::Write(v)
 }
@@ -52,44 +55,52 @@ fn judge_read(c: Command, n: usize) -> Judgement
     if n == 0 {
         return Judgement::Read(c);
     }
-    Judgement::Refuse(Codes::SIZE)
+    Judgement::Error(Codes::SIZE)
 }
 
 // With no fault of the first group: only for flags 00 or 03 are the data complete.
-fn judge_data(found: Found, mode: u8, header: [u8; HEADER], d: &[u8]) -> Judgement
-    ensures { λ r. ⌜ r ≡ judgeDataOf found mode (typeOf header) (flagsOf header) (now (d .entry)) ⌝ }
+fn judge_data(
+    c: Command,
+    mode: u8,
+    header: [u8; HEADER],
+    held: &[u8],
+    payload: &[u8],
+) -> Judgement
+    requires { ⌜ (length (now held) ≤ 1024) × (length (now payload) < 65536) ⌝ }
+    ensures { λ r. ⌜ r ≡ judgeDataOf c mode (typeOf header) (flagsOf header) (now (held .entry) ++ now (payload .entry)) ⌝ }
 {
-    let Found::Known(c) = found else {
-        return Judgement::Refuse(Codes::SIZE);
-    };
     let kind = header[0];
     let flags = header[3];
-    if !((flags == packet::WHOLE) | (flags == packet::LAST)) {
+    if (flags != packet::WHOLE) & (flags != packet::LAST) {
         return Judgement::Hold(c);
     }
     if kind == packet::HOST_READ {
-        return judge_read(c, d.len());
+        return judge_read(c, held.len() + payload.len());
     }
-    judge_write(c, mode, d)
+    judge_write(c, mode, held, payload)
 }
 
-// A complete packet: its header, whether its checksum was right, and the hold, in which its
-// payload stands after the bytes that are held.
+// A complete packet: its header, whether its checksum was right, and its payload. `buffer` begins with
+// the held bytes of the open transfer.
 pub(crate) fn judge(
     mode: u8,
     t: TransferState,
     header: [u8; HEADER],
     right: bool,
-    hold: &[u8],
+    buffer: &[u8],
+    payload: &[u8],
 ) -> Judgement
-    requires { ⌜ (transferInRule t ≡ true) × (length (now hold) ≡ 1024) ⌝ }
-    ensures { λ r. ⌜ r ≡ judgeOf mode (transferIn t (now (hold .entry))) (packetIn (heldIn t) header right (now (hold .entry))) ⌝ }
+    requires { ⌜ (transferInRule t ≡ true) × (length (now buffer) ≡ 1024) × (length (now payload) < 65536) ⌝ }
+    ensures { λ r. ⌜ r ≡ judgeOf mode (transferIn t (now (buffer .entry))) (packetIn header right (now (payload .entry))) ⌝ }
 {
     let found = Command::find(header[1], header[2]);
     let codes = faults(found, t, header, right);
-    if codes.any() {
-        return Judgement::Refuse(codes);
+    let Found::Known(c) = found else {
+        return Judgement::Error(codes);
+    };
+    if codes.first_group() {
+        return Judgement::Error(codes);
     }
-    let n = t.held() + packet::word(header[4], header[5]);
-    judge_data(found, mode, header, &hold[..n])
+    let n = t.held();
+    judge_data(c, mode, header, &buffer[..n], payload)
 }

@@ -27,16 +27,17 @@ mod player;
 
 // The head and its calls.
 pub use controller::Controller;
+pub use controller::Registers;
 pub use encoder::Encoded;
 pub use encoder::LIST_OUTPUT;
 pub use encoder::encode;
 pub use encoder::standard_list;
-pub use endpoint::Answer;
 pub use endpoint::Step;
 pub use endpoint::receive;
 pub use output::OUTPUT;
 pub use player::Played;
 pub use player::play;
+pub use transfer::HOLD;
 pub use transfer::TransferState;
 
 // The commands and their values.

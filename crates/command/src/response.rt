@@ -19,14 +19,14 @@ ghost use Rattle.command.specs.Response.{responseType, responseData};
 
 // The data with one code more, where its fault holds.
 fn with_code(d: Data, holds: bool, code: u8) -> Data
-    requires { ⌜ d .length + 1 ≤ 17 ⌝ }
-    ensures { λ r. ⌜ (contents r ≡ contents d ++ cond holds (code ∷ []) []) × (r .length ≤ d .length + 1) ⌝ }
+    requires { ⌜ d .count + 1 ≤ 17 ⌝ }
+    ensures { λ r. ⌜ (contents r ≡ contents d ++ cond holds (code ∷ []) []) × (r .count ≤ d .count + 1) ⌝ }
 {
-    let at = d.length;
+    let at = d.count;
     let mut more = d;
     if holds {
         more.bytes[at] = code;
-        more.length = at + 1;
+        more.count = at + 1;
     }
     more
 }
@@ -37,19 +37,20 @@ fn codes_data(k: Codes) -> Data
 {
     let mut d = Data::EMPTY;
     d = with_code(d, k.command, 0x02);
-    d = with_code(d, k.value, 0x03);
-    d = with_code(d, k.length, 0x04);
-    d = with_code(d, k.mode, 0x07);
+    d = with_code(d, k.parameter, 0x03);
+    d = with_code(d, k.memory, 0x04);
+    d = with_code(d, k.precondition, 0x07);
     d = with_code(d, k.checksum, 0x09);
-    d = with_code(d, k.size, 0x0A);
-    with_code(d, k.order, 0x0B)
+    d = with_code(d, k.format, 0x0A);
+    with_code(d, k.continuation, 0x0B)
 }
 
-fn response_type(j: Judgement) -> u8
+// The type of the response.
+pub(crate) fn response_type(j: Judgement) -> u8
     ensures { λ r. ⌜ r ≡ responseType j ⌝ }
 {
     match j {
-        Judgement::Refuse(_) => packet::ERROR,
+        Judgement::Error(_) => packet::ERROR,
         Judgement::Hold(_) => packet::WRITE_RESPONSE,
         Judgement::Write(_) => packet::WRITE_RESPONSE,
         Judgement::Read(_) => packet::READ_RESPONSE,
@@ -60,7 +61,7 @@ fn response_data(s: Settings, j: Judgement) -> Data
     ensures { λ r. ⌜ Holds r (responseData s j) ⌝ }
 {
     match j {
-        Judgement::Refuse(k) => codes_data(k),
+        Judgement::Error(k) => codes_data(k),
         Judgement::Hold(_) => Data::EMPTY,
         Judgement::Write(_) => Data::EMPTY,
         Judgement::Read(c) => data_of(value_of(s, c)),

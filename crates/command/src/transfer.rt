@@ -1,8 +1,10 @@
 // The open transfer, as the controller has it: numbers alone, which mean something whatever they are.
 use crate::table::Command;
-use packet::HOLD;
 ghost use mathlib.Core.Path.{_≡_};
 ghost use Rattle.command.specs.Controller.{heldIn, transferInRule};
+
+// How many payload bytes are held, of a transfer and of the packet that is coming in.
+pub const HOLD: usize = 1024;
 
 // An open transfer: its command's bytes, and how many bytes of it are held. None is open where
 // `active` is 0.

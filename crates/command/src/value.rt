@@ -1,6 +1,7 @@
 // A command with its values: what a write carries and a read answers, read from its data and written to it.
 use crate::data::Data;
 use crate::data::byte_at;
+use crate::data::joined;
 use crate::data::long_at;
 use crate::data::word_at;
 use crate::settings::DisplaySetting;
@@ -14,7 +15,8 @@ use crate::settings::VideoMode;
 use crate::table::Command;
 ghost use mathlib.Core.Path.{_≡_};
 ghost use Rattle.command.specs.Value.{commandIn, valueFrom, dataIn};
-ghost use mathlib.Core.List.{[]};
+ghost use mathlib.Core.List.{[], _++_};
+ghost use Prim.Native.Nat.{_≤_, _<_};
 ghost use lib.ListN.{length};
 ghost use Rattle.command.specs.Fields.{currentValues, colourValues, settingValues, inputValues, videoValues, sequenceValues};
 ghost use Rattle.command.specs.Table.{layout};
@@ -58,14 +60,23 @@ impl Value {
     }
 }
 
-// The values that stand in a command's data, where their size is right.
-pub(crate) fn parse(c: Command, d: &[u8]) -> Parsed
-    ensures { λ r. ⌜ r ≡ parsed c (now (d .entry)) ⌝ }
+// The values that stand in a command's data, where their size is right: what is held of a transfer,
+// and after it a packet's payload.
+pub(crate) fn parse(c: Command, held: &[u8], payload: &[u8]) -> Parsed
+    requires { ⌜ (length (now held) ≤ 1024) × (length (now payload) < 65536) ⌝ }
+    ensures { λ r. ⌜ r ≡ parsed c (now (held .entry) ++ now (payload .entry)) ⌝ }
 {
-    if d.len() != c.size() {
+    if held.len() + payload.len() != c.size() {
         return Parsed::WrongSize;
     }
-    Parsed::Values(from(c, d))
+    // With nothing held the data are read where they stand.
+    if held.len() == 0 {
+        return Parsed::Values(from(c, payload));
+    }
+    let d = joined(held, payload);
+    let bytes = d.bytes;
+    let n = d.count;
+    Parsed::Values(from(c, &bytes[..n]))
 }
 
 // The values in data of the command's size.

@@ -19,7 +19,7 @@ use Rattle.command.specs.Data.{joinAll}
 use Rattle.command.specs.Value.{commandIn, valuesIn, valueFrom, dataIn}
 use Rattle.command.specs.Transfer.{Transfer, Closed, Opened, isOpen, held, openFor}
 use Rattle.command.specs.Faults.{Arrived, arrived, wrongCommand, tooLong, wrongOrder, faultsOf, faults, anyFault, modeFault}
-use Rattle.command.specs.Judgement.{judgeWrite, judgeData, judge}
+use Rattle.command.specs.Judgement.{judgeWrite, judgeData, judgeAs, judge}
 use Rattle.command.specs.Player.{State, from, judged, next}
 use Rattle.command.specs.Encoder.{writePacket, encoded}
 use Rattle.command.specs.declared.table.Command.{Command}
@@ -27,7 +27,7 @@ use Rattle.command.specs.declared.table.Found.{Found}
 use Rattle.command.specs.declared.table.Found.the-variants.{Known}
 use Rattle.command.specs.declared.settings.Settings.{Settings}
 use Rattle.command.specs.declared.value.Value.{Value}
-use Rattle.command.specs.declared.judgement.Judgement.the-variants.{Refuse, Write}
+use Rattle.command.specs.declared.judgement.Judgement.the-variants.{Error, Write}
 use Rattle.command.proofs.table.Laws.{Fit, fit-length, found, known-code, size-small}
 use Rattle.command.proofs.data.Laws.{split-join, length-join, join-split}
 use Rattle.command.proofs.value.Laws.{command-from, values-from, value-from}
@@ -50,11 +50,11 @@ module _ (type : ℕ) (c : Command) (d : List ℕ) (w : wrongCommand (Known c) t
   unfolding anyFault faults faultsOf tooLong wrongOrder
   no-faults = rw (w, le-ltb 1024 (length d) h, and-false (not (eqb type hostWrite)))
 
-  alone : (mode : ℕ) → judge mode Closed (plain type c d) ≡ judgeData (Known c) mode type whole d
-  unfolding judge
+  alone : (mode : ℕ) → judge mode Closed (plain type c d) ≡ judgeData c mode type whole d
+  unfolding judge judgeAs
   alone mode = rw (found c, no-faults)
 
-  pub judge-plain : (mode : ℕ) → judge mode Closed (arrived (packetOf type (cmd1For c) (cmd2For c) whole d)) ≡ judgeData (Known c) mode type whole d
+  pub judge-plain : (mode : ℕ) → judge mode Closed (arrived (packetOf type (cmd1For c) (cmd2For c) whole d)) ≡ judgeData c mode type whole d
   judge-plain mode = rw (arrived-plain type c d (omega arith)) (alone mode)
 
 -- Values that fit and are allowed.
@@ -64,7 +64,7 @@ module _ (c : Command) (v : List ℕ) (f : Fit (layout c) v) (a : allowed c v �
   length-data = length-join (layout c) v (fit-length (layout c) v f)
 
   -- the packet of a legal write is judged as that write; only run 1 outside mode 4 draws 07 instead
-  pub judged-write : (mode : ℕ) → judge mode Closed (arrived (writePacket c (joinAll (layout c) v))) ≡ cond (blocked c v mode) (Refuse modeFault) (Write (valueFrom c v))
+  pub judged-write : (mode : ℕ) → judge mode Closed (arrived (writePacket c (joinAll (layout c) v))) ≡ cond (blocked c v mode) (Error modeFault) (Write (valueFrom c v))
   unfolding writePacket wrongCommand judgeData judgeWrite
   judged-write mode =
       judge-plain hostWrite c (joinAll (layout c) v) refl (omega (arith, length-data, size-small c)) mode
@@ -84,12 +84,12 @@ module _ (c : Command) (v : List ℕ) (f : Fit (layout c) v) (a : allowed c v �
 
 -- Demand 2: our own encoder's packet for a legal write, on a head with no transfer open, is judged as that same write; only run 1 outside mode 4 draws 07 instead.
 pub encoder-judged : (v : Value) (s : Settings) → Fit (layout (commandIn v)) (valuesIn v) → allowed (commandIn v) (valuesIn v) ≡ true
-    → IsPacket (encoded v) × (judged (from s) (encoded v) ≡ cond (blocked (commandIn v) (valuesIn v) (s .mode)) (Refuse modeFault) (Write v))
+    → IsPacket (encoded v) × (judged (from s) (encoded v) ≡ cond (blocked (commandIn v) (valuesIn v) (s .mode)) (Error modeFault) (Write v))
 unfolding encoded dataIn judged
 encoder-judged v s f a = (
   write-packet (commandIn v) (valuesIn v) f a,
   judged-write (commandIn v) (valuesIn v) f a (s .mode)
-      ∙ ap (λ (x : Value). cond (blocked (commandIn v) (valuesIn v) (s .mode)) (Refuse modeFault) (Write x)) (value-from v),
+      ∙ ap (λ (x : Value). cond (blocked (commandIn v) (valuesIn v) (s .mode)) (Error modeFault) (Write x)) (value-from v),
 )
 
 -- Every write accepted in one packet encodes to the bytes it arrived as.
@@ -126,15 +126,15 @@ unfolding judged encoded dataIn writePacket sizeOf
 accepted-encodes p b i a v z h =
     subst (OfWrite Remade) h
     (of-judge Remade (a .settings .mode) (a .transfer) (arrived p)
-    (λ e c k r n w.
-    let g = faultless (commandOf (cmd1Of p) (cmd2Of p)) (a .transfer) (arrived p) e in
+    (λ c k e r n w.
+    let g = faultless (Known c) (a .transfer) (arrived p) e in
     let code = known-code (cmd1Of p) (cmd2Of p) c k in
     let d : held (a .transfer) ++ payload p ≡ payload p =
     ap (λ (x : Transfer). held x ++ payload p)
-    (whole-closed (a .transfer) (openFor (commandOf (cmd1Of p) (cmd2Of p)) (a .transfer)) (typeOf p) (rw z at (g .order))) in
-    packet-eq (sym (type-write (commandOf (cmd1Of p) (cmd2Of p)) (typeOf p) (g .command) r)) (sym (code .0)) (sym (code .1)) (sym z)
+    (whole-closed (a .transfer) (openFor (Known c) (a .transfer)) (typeOf p) (rw z at (g .continuation))) in
+    packet-eq (sym (type-write (Known c) (typeOf p) (g .command) r)) (sym (code .0)) (sym (code .1)) (sym z)
     (rw d (join-split (layout c) (payload p) (payload-bytes p b) (rw d at n)))
-    ∙ packet-remade p b i (g .sum)))
+    ∙ packet-remade p b i (g .checksum)))
   where
     Remade : Command → List ℕ → Type 0
     Remade c u = packetOf hostWrite (cmd1For c) (cmd2For c) whole (joinAll (layout c) u) ≡ p

@@ -25,7 +25,7 @@ use Rattle.command.specs.Endpoint.{Answers, responseIn, After, waiting, 
 use Rattle.command.specs.Player.{judged, next, State}
 use Rattle.command.specs.declared.transfer.TransferState.{TransferState}
 use Rattle.command.specs.declared.judgement.Judgement.{Judgement}
-use Rattle.command.specs.declared.judgement.Judgement.the-variants.{Read, Refuse, Hold, Write}
+use Rattle.command.specs.declared.judgement.Judgement.the-variants.{Read, Error, Hold, Write}
 use Rattle.command.specs.declared.controller.Controller.{Controller}
 use Rattle.command.proofs.table.Laws.{found}
 use Rattle.command.proofs.transfer.Laws.{fits-hold, by-transfer, held-is, held-length}
@@ -125,7 +125,7 @@ module _ (c : Controller) (k : Ready c) (p : List ℕ) (i : IsPacket p) where
     settings = settingsAfter (c .settings) j;
     transfer = transferAfter (transferIn (c .transfer) (c .receiver .hold)) (arrived p) j;
   }
-  carried-state (Refuse r) b = refl
+  carried-state (Error r) b = refl
   carried-state (Hold d) b =
       ap (λ (t : Transfer). record { settings = c .settings; transfer = t })
       (rw (found d, getD-take 6 p 4 0 (omega arith), getD-take 6 p 5 0 (omega arith))

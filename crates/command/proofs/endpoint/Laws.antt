@@ -25,7 +25,7 @@ use Rattle.command.specs.Controller.{heldIn, transferIn, transferInRule,
 use Rattle.command.specs.Endpoint.{Outcome, Refuses, Waits, Answers, arrivedIn, judgedIn, carriedOut, responseIn, takenBy, After, waiting, answered, receiveCall}
 use Rattle.command.specs.declared.transfer.TransferState.{TransferState}
 use Rattle.command.specs.declared.judgement.Judgement.{Judgement}
-use Rattle.command.specs.declared.judgement.Judgement.the-variants.{Refuse, Hold, Write, Read}
+use Rattle.command.specs.declared.judgement.Judgement.the-variants.{Error, Hold, Write, Read}
 use Rattle.command.specs.declared.controller.Controller.{Controller}
 use Rattle.command.proofs.table.Laws.{found}
 use Rattle.command.proofs.rules.Laws.{kept-by, in-rule-of}
@@ -85,7 +85,7 @@ module _ (c : Controller) (b out : List ℕ) (k : Ready c) (l : 64 ≤ length ou
 -- A transfer that is added to keeps within the hold.
 
 abbrev pub Bounded : ℕ → Judgement → Type 0
-Bounded n (Refuse k) = Unit {0}
+Bounded n (Error k) = Unit {0}
 Bounded n (Hold c) = n ≤ 1024
 Bounded n (Write v) = Unit {0}
 Bounded n (Read c) = Unit {0}
@@ -97,7 +97,7 @@ bounded mode t p =
 
 transfer-kept : (t : TransferState) (n : ℕ) (j : Judgement) → transferInRule t ≡ true → Bounded n j → transferInRule (transferStateAfter t n j) ≡ true
 unfolding transferInRule
-transfer-kept t n (Refuse k) r b = refl
+transfer-kept t n (Error k) r b = refl
 transfer-kept t n (Hold c) r b = rw (le-leb n 1024 b, found c)
 transfer-kept t n (Write v) r b = refl
 transfer-kept t n (Read c) r b = r

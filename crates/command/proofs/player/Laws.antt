@@ -18,7 +18,7 @@ use Rattle.command.specs.Player.{State, from, judged, next, after, play}
 use Rattle.command.specs.declared.table.Command.{Command}
 use Rattle.command.specs.declared.settings.Settings.{Settings}
 use Rattle.command.specs.declared.judgement.Judgement.{Judgement}
-use Rattle.command.specs.declared.judgement.Judgement.the-variants.{Refuse, Hold, Write, Read}
+use Rattle.command.specs.declared.judgement.Judgement.the-variants.{Error, Hold, Write, Read}
 use Rattle.command.proofs.table.Laws.{Fit}
 use Rattle.command.proofs.rules.Laws.{Kept, Fits, Writable, kept-store, fits-store}
 use Rattle.command.proofs.judgement.Laws.{OfWrite, Sound, sound, fitting}
@@ -32,7 +32,7 @@ pub record Holding (a : State) : Type 0 where
 -- what a store of such values keeps, a judgement keeps that carries out no other
 carried : (P : Settings → Type 0) (Q : Command → List ℕ → Type 0) (s : Settings) → ((c : Command) (v : List ℕ) → P s → Q c v → P (store c v s))
     → (j : Judgement) → P s → OfWrite Q j → P (settingsAfter s j)
-carried P Q s k (Refuse _) h w = h
+carried P Q s k (Error _) h w = h
 carried P Q s k (Hold _) h w = h
 carried P Q s k (Write v) h w = k (commandIn v) (valuesIn v) h w
 carried P Q s k (Read _) h w = h
@@ -41,7 +41,7 @@ pub kept-judgement : (s : Settings) (j : Judgement) → Kept s → Sound (s .mod
 kept-judgement s j = carried Kept (Writable (s .mode)) s (λ c v. kept-store c v s) j
 
 bytes-judgement : (t : Transfer) (p : Arrived) (j : Judgement) → Bytes (held t) → Bytes (held t ++ p .body) → Bytes (held (transferAfter t p j))
-bytes-judgement t p (Refuse k) h b = tt
+bytes-judgement t p (Error k) h b = tt
 bytes-judgement t p (Hold c) h b = b
 bytes-judgement t p (Write v) h b = tt
 bytes-judgement t p (Read c) h b = h

@@ -2,18 +2,18 @@
 use Prim.Native.Nat.{ℕ, _+_, _≤_}
 use mathlib.Core.Path.{_≡_, refl, ap, ap₂, sym, subst, _∙_}
 use mathlib.Core.Bool.{Bool, true, false, not, _&&_, _||_, and-true}
-use mathlib.Core.List.{List, _++_}
+use mathlib.Core.List.{List}
 use native.Mathlib.Omega.{arith}
 use lib.Dec.{eqb, ltb, leb}
-use lib.ListN.{length, take, drop}
-use lib.Seq.{length-take-le, take-add}
+use lib.ListN.{length, take}
+use lib.Seq.{length-take-le}
 use borrow.Author.Tests.{eq-eqb, ne-eqb, eqb-true, eqb-false, ltb-false, leb-true, not-false}
-use Rattle.packet.specs.Packet.{payloadLength, hostWrite, whole, beginning, intermediate, last}
+use Rattle.packet.specs.Packet.{hostWrite, whole, beginning, intermediate, last}
 use Rattle.packet.proofs.Cases.{bool-cases, and-left, and-right, or-left, or-right}
 use Rattle.command.specs.Table.{cmd1For, cmd2For, hasCode, commandOf, isKnown, same}
 use Rattle.command.specs.Transfer.{Transfer, Closed, Opened, isOpen, held, openFor}
 use Rattle.command.specs.Faults.{Arrived, continues, wrongCommand, tooLong, wrongOrder, faultsOf, faults, anyFault}
-use Rattle.command.specs.Controller.{heldIn, transferIn, transferInRule, packetIn}
+use Rattle.command.specs.Controller.{heldIn, transferIn, transferInRule}
 use Rattle.command.specs.Inner.{isOpenIn, openForIn}
 use Rattle.command.specs.declared.table.Command.{Command}
 use Rattle.command.specs.declared.table.Found.{Found}
@@ -31,16 +31,16 @@ none-of-four a b c d h =
 
 pub record Faultless (f : Found) (t : Transfer) (p : Arrived) : Type 0 where
   pub command : wrongCommand f (p .type) ≡ false
-  pub length : tooLong (isOpen t) (lib.ListN.length (held t)) (p .flags) (p .size) ≡ false
-  pub sum : p .right ≡ true
-  pub order : wrongOrder (isOpen t) (openFor f t) (p .type) (p .flags) ≡ false
+  pub memory : tooLong (isOpen t) (length (held t)) (p .flags) (p .size) ≡ false
+  pub checksum : p .right ≡ true
+  pub continuation : wrongOrder (isOpen t) (openFor f t) (p .type) (p .flags) ≡ false
 
 pub faultless : (f : Found) (t : Transfer) (p : Arrived) → anyFault (faults f t p) ≡ false → Faultless f t p
 unfolding anyFault faults faultsOf
 faultless f t p h =
     let n =
     none-of-four (wrongCommand f (p .type)) (tooLong (isOpen t) (length (held t)) (p .flags) (p .size)) (not (p .right)) (wrongOrder (isOpen t) (openFor f t) (p .type) (p .flags)) h in
-    record { command = n .0; length = n .1; sum = not-false (p .right) (n .2); order = n .3 }
+    record { command = n .0; memory = n .1; checksum = not-false (p .right) (n .2); continuation = n .3 }
 
 -- while a transfer is open, flags that are in order continue it
 continues-open : (o : Bool) (type flags : ℕ) → wrongOrder true o type flags ≡ false → continues flags ≡ true
@@ -62,7 +62,7 @@ continues-open o type flags h =
 
 -- the held bytes and the payload fit the hold
 pub fits-hold : (f : Found) (t : Transfer) (p : Arrived) → anyFault (faults f t p) ≡ false → length (held t) + p .size ≤ 1024
-fits-hold f t p h = let k = faultless f t p h in go t (k .length) (k .order)
+fits-hold f t p h = let k = faultless f t p h in go t (k .memory) (k .continuation)
   where
     go : (t : Transfer) → tooLong (isOpen t) (length (held t)) (p .flags) (p .size) ≡ false → wrongOrder (isOpen t) (openFor f t) (p .type) (p .flags) ≡ false
         → length (held t) + p .size ≤ 1024
@@ -105,29 +105,25 @@ module _ (t : TransferState) (r : transferInRule t ≡ true) where
           (λ e. e ∙ sym (eq-eqb b a (sym (eqb-true a b e))))
           (λ e. e ∙ sym (ne-eqb b a (λ h. eqb-false a b e (sym h))))
 
-  -- It is document 01's transfer, its held data being the first bytes of a hold.
-  module _ (hold : List ℕ) where
-    pub held-is : held (transferIn t hold) ≡ take (heldIn t) hold
+  -- It is document 01's transfer, its held data being the first bytes of the buffer.
+  module _ (buffer : List ℕ) where
+    pub held-is : held (transferIn t buffer) ≡ take (heldIn t) buffer
     held-is = by-transfer (λ e. rw e) (λ c e k. rw (e, k))
 
-    pub open-is : isOpen (transferIn t hold) ≡ isOpenIn t
+    pub open-is : isOpen (transferIn t buffer) ≡ isOpenIn t
     open-is = by-transfer (λ e. rw e) (λ c e k. rw (e, k))
 
-    open-for-is : (f : Found) → openFor f (transferIn t hold) ≡ openForIn f t
+    open-for-is : (f : Found) → openFor f (transferIn t buffer) ≡ openForIn f t
     open-for-is Unknown = refl
     open-for-is (Known c) = by-transfer (λ e. rw e) (λ d e k. rw (e, k) (same-code c d k))
 
-    module _ (n : length hold ≡ 1024) where
-      pub held-length : length (held (transferIn t hold)) ≡ heldIn t
-      held-length = ap length held-is ∙ length-take-le (heldIn t) hold (omega (arith, held-most))
+    module _ (n : length buffer ≡ 1024) where
+      pub held-length : length (held (transferIn t buffer)) ≡ heldIn t
+      held-length = ap length held-is ∙ length-take-le (heldIn t) buffer (omega (arith, held-most))
 
       -- the codes of the first group
       pub faults-are : (f : Found) (p : Arrived)
-          → faults f (transferIn t hold) p ≡ faultsOf f (isOpenIn t) (openForIn f t) (heldIn t) (p .type) (p .flags) (p .size) (p .right)
+          → faults f (transferIn t buffer) p ≡ faultsOf f (isOpenIn t) (openForIn f t) (heldIn t) (p .type) (p .flags) (p .size) (p .right)
       unfolding faults
       faults-are f p = rw (open-is, open-for-is f, held-length)
 
-    -- the joined data are the first bytes of the hold
-    pub joined-data : (header : List ℕ) (right : Bool)
-        → held (transferIn t hold) ++ packetIn (heldIn t) header right hold .body ≡ take (heldIn t + payloadLength header) hold
-    joined-data header right = ap (λ (x : List ℕ). x ++ take (payloadLength header) (drop (heldIn t) hold)) held-is ∙ sym (take-add (heldIn t) (payloadLength header) hold)

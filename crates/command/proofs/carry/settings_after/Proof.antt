@@ -8,7 +8,7 @@ use types.Run.{OneOf, miss}
 use Rattle.command.specs.Carry.{settingsAfter}
 use Rattle.command.specs.declared.settings.Settings.{Settings}
 use Rattle.command.specs.declared.judgement.Judgement.{Judgement}
-use Rattle.command.specs.declared.judgement.Judgement.the-variants.{Refuse, Hold, Write, Read}
+use Rattle.command.specs.declared.judgement.Judgement.the-variants.{Error, Hold, Write, Read}
 use Rattle.command.proofs.judgement.Judgement.{the-type}
 use Rattle.command.proofs.carry.settings_after.Statement.{statement}
 use Rattle.command.proofs.carry.settings_after.Tie as tie
@@ -17,7 +17,7 @@ abbrev rest : List ℕ
 rest = 0 ∷ 1 ∷ 3 ∷ []
 
 others : (s : Settings) (j : Judgement) → OneOf rest (tagOf the-type j) → s ≡ settingsAfter s j
-others s (Refuse k) h = refl
+others s (Error k) h = refl
 others s (Hold c) h = refl
 others s (Write v) h = absurd (miss rest 2 tt h)
 others s (Read c) h = refl

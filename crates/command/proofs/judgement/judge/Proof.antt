@@ -11,14 +11,14 @@ use Rattle.packet.specs.Packet.{typeOf, flagsOf, payloadLength}
 use Rattle.command.specs.Faults.{anyFault}
 use Rattle.command.specs.Judgement.{judgeData, judge}
 use Rattle.command.specs.Controller.{heldIn, transferIn, packetIn}
-use Rattle.command.specs.declared.judgement.Judgement.the-variants.{Refuse}
+use Rattle.command.specs.declared.judgement.Judgement.the-variants.{Error}
 use Rattle.command.proofs.judgement.Laws.{judge-parts, judge-fits}
 use Rattle.command.proofs.judgement.judge.Statement.{statement}
 use Rattle.command.proofs.judgement.judge.Tie as tie
 
 judged : (c : tie.After-any)
     → let a = c .before .before .before .before .args in
-    cond (c .any .result) (Refuse (c .before .faults .result))
+    cond (c .any .result) (Error (c .before .faults .result))
     (judgeData (c .before .before .find .result) (a .mode) (typeOf (a .t3)) (flagsOf (a .t3)) (take (heldIn (a .t) + payloadLength (a .t3)) (now (a .hold))))
     ≡ judge (a .mode) (transferIn (a .t) (now (a .hold))) (packetIn (heldIn (a .t)) (a .t3) (a .right) (now (a .hold)))
 judged c =

@@ -13,11 +13,11 @@ use Rattle.command.proofs.output.emit.Statement.{statement}
 use Rattle.command.proofs.output.emit.Tie as tie
 
 -- as many bytes count as the length says
-counted : (s : tie.Start) → length (contents (s .args .d)) ≡ s .args .d .length
+counted : (s : tie.Start) → length (contents (s .args .d)) ≡ s .args .d .count
 counted s =
     let d = s .args .d in
     let n : length (d .bytes) ≡ 17 = search needs in
-    length-take-le (d .length) (d .bytes) (omega (arith, s .pre .1))
+    length-take-le (d .count) (d .bytes) (omega (arith, s .pre .1))
 
 array-share-prefix-bytes : tie.Need-array-share-prefix-bytes
 array-share-prefix-bytes c =

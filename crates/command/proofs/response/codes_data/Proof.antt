@@ -18,12 +18,12 @@ list-append false n l m = refl
 -- the codes, one after the other
 listed : (k : Codes) {a b c d e f g : List ℕ}
     → a ≡ listIf (k .command) 0x02 []
-    → b ≡ a ++ listIf (k .value) 0x03 []
-    → c ≡ b ++ listIf (k .length) 0x04 []
-    → d ≡ c ++ listIf (k .mode) 0x07 []
+    → b ≡ a ++ listIf (k .parameter) 0x03 []
+    → c ≡ b ++ listIf (k .memory) 0x04 []
+    → d ≡ c ++ listIf (k .precondition) 0x07 []
     → e ≡ d ++ listIf (k .checksum) 0x09 []
-    → f ≡ e ++ listIf (k .size) 0x0A []
-    → g ≡ f ++ listIf (k .order) 0x0B []
+    → f ≡ e ++ listIf (k .format) 0x0A []
+    → g ≡ f ++ listIf (k .continuation) 0x0B []
     → g ≡ codesOf k
 unfolding codesOf
 listed k p q r s t u v = rw (v, u, t, s, r, q, p) (simp list-append)

@@ -14,7 +14,7 @@ returns : tie.Need-returns
 returns c =
     let a = c .before .args in
     let k : length (a .d .bytes) ≡ 17 = search needs in
-    rw (c .if1 .taken, add-one) (take-suc-set (a .d .bytes) (a .d .length) (a .code) (omega arith), omega arith)
+    rw (c .if1 .taken, add-one) (take-suc-set (a .d .bytes) (a .d .count) (a .code) (omega arith), omega arith)
 
 returns-2 : tie.Need-returns-2
 returns-2 c = rw (c .if1 .left, append-nil (contents (c .before .args .d))) (refl, omega arith)

@@ -1,7 +1,7 @@
 -- `Controller::fresh` meets its contract: the constant is the definition's controller.
 use mathlib.Core.Path.{refl}
-use Rattle.packet.specs.Receiver.{zeros}
 use Rattle.command.specs.Settings.{factory}
+use Rattle.command.specs.Controller.{zeros}
 use Rattle.command.proofs.controller.Controller.fresh.Statement.{statement}
 use Rattle.command.proofs.controller.Controller.fresh.Tie as tie
 

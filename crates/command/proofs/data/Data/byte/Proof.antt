@@ -16,7 +16,7 @@ returns c =
     let a = c .args in
     let k : length (a .self .bytes) ≡ 17 = search needs in
     let m : a .b % 256 ≡ a .b = omega arith in
-    (rw (m, add-one) (take-suc-set (a .self .bytes) (a .self .length) (a .b) (omega arith)), refl)
+    (rw (m, add-one) (take-suc-set (a .self .bytes) (a .self .count) (a .b) (omega arith)), refl)
 
 pub byte-spec : {M : Type 1} → statement M
 byte-spec =
