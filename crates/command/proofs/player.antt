@@ -1,3 +1,2 @@
 -- The laws of player.
 pub mod Laws
-pub mod Turns
