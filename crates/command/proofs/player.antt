@@ -1,2 +1,3 @@
 -- The laws of player.
 pub mod Laws
+pub mod Turns

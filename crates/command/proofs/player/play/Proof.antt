@@ -1,60 +1,124 @@
--- `play` meets its contract.
+-- `play` meets its contract. The loop's invariant: what is left of the bytes goes on from where the play stands.
+use Prim.Native.Nat.{ℕ, _+_, _≤_, _<_, _-_}
+use mathlib.Core.Path.{_≡_, refl, sym, ap, _∙_}
+use mathlib.Core.Bool.{true, not, Bool·not-not}
+use mathlib.Core.List.{List}
+use native.Mathlib.Omega.{arith}
+use lib.Dec.{eqb}
+use lib.ListN.{length, take, drop, length-drop}
+use lib.Seq.{length-take-le}
 use borrow.Author.Needs.{needs}
+use borrow.Author.Tests.{not-true, not-false}
+use denote.Ref.{now}
+use Rattle.packet.specs.Stream.{size}
+use Rattle.packet.proofs.NumberLaws.{bytes-at, bytes-take, bytes-drop}
+use Rattle.packet.proofs.StreamLaws.{size-most}
+use Rattle.command.specs.Rules.{settingsInRule}
+use Rattle.command.specs.Controller.{transferIn, transferInRule}
+use Rattle.command.specs.Transfer.{isOpen}
+use Rattle.command.specs.Inner.{stateIn}
+use Rattle.command.proofs.transfer.Laws.{open-is}
+use Rattle.command.proofs.player.Turns.{Going, Turned, going-start, going-packet, going-stop, going-done}
 use Rattle.command.proofs.player.play.Statement.{statement}
 use Rattle.command.proofs.player.play.Tie as tie
 
-abbrev μ-loop : tie.MeasureT-loop
-μ-loop b settings₀ transfer₀ buffer₀ acknowledged₀ at₀ settings transfer buffer acknowledged at = ?
+abbrev Inv-loop : tie.InvT-loop
+Inv-loop b settings₀ transfer₀ buffer₀ acknowledged₀ at₀ settings transfer buffer acknowledged at =
+    (at ≤ length b) × (transferInRule transfer ≡ true) × Going settings₀ b (stateIn settings transfer buffer) acknowledged at
 
-settings-in-rule-requires : tie.Need-settings-in-rule-requires Inv-loop μ-loop
-settings-in-rule-requires c κs = ?
+abbrev μ-loop : tie.MeasureT-loop
+μ-loop b settings₀ transfer₀ buffer₀ acknowledged₀ at₀ settings transfer buffer acknowledged at = length b - at
+
+-- the settings are in rule past the test
+ruled : (c : tie.Else1 Inv-loop μ-loop) → settingsInRule (c .before .before .before .args .s) ≡ true
+ruled c = sym (c .before .settings-in-rule .ensures) ∙ not-false (c .before .settings-in-rule .result) (c .if1 .left)
 
 returns : tie.Need-returns Inv-loop μ-loop
-returns c = ?
+returns c =
+    let e = sym (c .before .settings-in-rule .ensures) ∙ not-true (c .before .settings-in-rule .result) (c .if1 .taken) in
+    rw e (refl, refl)
 
 loop-holds : tie.Need-loop-holds Inv-loop μ-loop
-loop-holds c = ?
+unfolding transferInRule
+loop-holds c =
+    let a = c .before .before .before .args in
+    (omega arith, refl, going-start (a .s) (now (a .b)))
 
-next-packet-requires : tie.Need-next-packet-requires Inv-loop μ-loop
-next-packet-requires c κs = ?
-
-enum-known-size : tie.Need-enum-known-size Inv-loop μ-loop
-enum-known-size c = ?
-
-enum-told : tie.Need-enum-told Inv-loop μ-loop
-enum-told c = ?
-
+-- too few bytes for a packet
 returns-2 : tie.Need-returns-2 Inv-loop μ-loop
-returns-2 c = ?
+returns-2 c =
+    let l = c .before .before .before .before in
+    rw (ruled (l .before)) (going-stop (l .loop .inv .2) (sym (c .before .before .next-packet .ensures) ∙ c .enum-told .given .1) (c .before .before .before .loop-test .taken))
 
-add-play-packet : tie.Need-add-play-packet Inv-loop μ-loop
-add-play-packet c = ?
+-- the packet that stands at the place, and the play after it
+turn : (c : tie.After-size Inv-loop μ-loop)
+    → let l = c .before .before .before .before in
+    let a = l .before .before .before .before .args in
+    Turned (a .s) (now (a .b)) (stateIn (l .loop .settings) (l .loop .transfer) (l .loop .buffer)) (l .loop .acknowledged) (l .loop .at)
+    (c .size .given .0 .0) (c .size .given .0 .1 .0)
+turn c =
+    let l = c .before .before .before .before in
+    going-packet (l .loop .inv .2) (c .size .given .0 .0) (c .size .given .0 .1 .0) (sym (c .before .before .next-packet .ensures) ∙ c .size .given .1) (l .loop .inv .0)
 
-sub-play-packet : tie.Need-sub-play-packet Inv-loop μ-loop
-sub-play-packet c = ?
+-- all of it is in the slice
+within : (c : tie.After-size Inv-loop μ-loop)
+    → let l = c .before .before .before .before in
+    l .loop .at + c .size .given .0 .0 < 18446744073709551616
+within c =
+    let s = c .before .before .before .before .before .before .before .before in
+    let n : length (now (s .args .b)) < 18446744073709551616 = search (needs, s .good .1) in
+    omega (arith, n, turn c .within)
 
-part-play-packet-start : tie.Need-part-play-packet-start Inv-loop μ-loop
-part-play-packet-start c = ?
+-- the slice that is handed on is the packet
+handed : (c : tie.After-size Inv-loop μ-loop)
+    → let l = c .before .before .before .before in
+    let b = now (l .before .before .before .before .args .b) in
+    take (l .loop .at + c .size .given .0 .0 - l .loop .at) (drop (l .loop .at) b) ≡ take (c .size .given .0 .0) (drop (l .loop .at) b)
+handed c =
+    let l = c .before .before .before .before in
+    let b = now (l .before .before .before .before .args .b) in
+    let e : l .loop .at + c .size .given .0 .0 - l .loop .at ≡ c .size .given .0 .0 = omega arith in
+    ap (λ (n : ℕ). take n (drop (l .loop .at) b)) e
 
 part-play-packet-end : tie.Need-part-play-packet-end Inv-loop μ-loop
-part-play-packet-end c = ?
+part-play-packet-end c = let h = turn (c .before .before) .within in omega arith
 
 play-packet-requires : tie.Need-play-packet-requires Inv-loop μ-loop
-play-packet-requires c κs = ?
-
-add-at : tie.Need-add-at Inv-loop μ-loop
-add-at c = ?
-
-loop-less : tie.Need-loop-less Inv-loop μ-loop
-loop-less c = ?
+play-packet-requires c κs =
+    let k = c .before .before .before in
+    let l = k .before .before .before .before in
+    let t = turn k in
+    let s = l .before .before .before .before in
+    let b = now (s .args .b) in
+    let n : length (take (k .size .given .0 .0) (drop (l .loop .at) b)) ≡ k .size .given .0 .0 = length-take-le _ _ (omega (arith, t .within, length-drop (l .loop .at) b)) in
+    let m : size (take (k .size .given .0 .0) (drop (l .loop .at) b)) ≤ 65542 =
+    size-most _ (bytes-take (k .size .given .0 .0) _ (bytes-drop (l .loop .at) b (bytes-at b (λ i. l .before .before .before .shared-slice-known .given i .fits)))) in
+    rw (handed k) (omega (arith, n, t .least), omega (arith, m, t .whole), t .whole, t .sum, l .loop .inv .1)
 
 loop-again : tie.Need-loop-again Inv-loop μ-loop
-loop-again c = ?
+loop-again c =
+    let p = c .before .before .before in
+    let k = p .before .before .before .before in
+    let l = k .before .before .before .before in
+    let b = now (l .before .before .before .before .args .b) in
+    let t = turn k in
+    let e : take (l .loop .at + k .size .given .0 .0 - l .loop .at) (drop (l .loop .at) b) ≡ take (k .size .given .0 .0) (drop (l .loop .at) b) = handed k in
+    (t .within, p .play-packet .ensures .2, rw (p .play-packet .ensures .0, p .play-packet .ensures .1, e) (t .going))
 
 returns-3 : tie.Need-returns-3 Inv-loop μ-loop
-returns-3 c = ?
+returns-3 c =
+    let l = c .before .before in
+    let a = l .before .before .before .before .args in
+    let g = going-done (l .loop .inv .2) (omega arith) in
+    let o : not (isOpen (transferIn (l .loop .transfer) (l .loop .buffer))) ≡ eqb (l .loop .transfer .active) 0 =
+    ap not (open-is (l .loop .transfer) (l .loop .inv .1) (l .loop .buffer)) ∙ Bool·not-not (eqb (l .loop .transfer .active) 0) in
+    rw (ruled (l .before), ← o) g
 
 pub play-spec : {M : Type 1} → statement M
 play-spec =
     tie.close
-    (tie.spec Inv-loop μ-loop settings-in-rule-requires returns loop-holds next-packet-requires enum-known-size enum-told returns-2 add-play-packet sub-play-packet part-play-packet-start part-play-packet-end play-packet-requires add-at loop-less loop-again returns-3)
+    (tie.spec Inv-loop μ-loop (λ c κs. search needs) returns loop-holds (λ c κs. search needs) (λ c. search needs)
+    (λ c. search needs) returns-2 (λ c. omega (arith, within (c .before .before))) (λ c. search needs) (λ c. search needs) part-play-packet-end
+    play-packet-requires (λ c. omega (arith, within (c .before .before .before .before .before .before .before)))
+    (λ c. let t = turn (c .before .before .before .before .before .before .before) in omega (arith, t .least, t .within)) loop-again
+    returns-3)
