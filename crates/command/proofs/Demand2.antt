@@ -1,147 +1,360 @@
--- Demand 2: responses and settings follow document 01, however the byte stream was cut; our own encoder's packet is read back as its write; and a read
--- that follows a write answers the data written. (Every write accepted in one packet encodes to its own bytes: `accepted-encodes` of encoder.Laws.)
-use Prim.Native.Nat.{ℕ, suc, _+_, _≤_}
-use mathlib.Core.Path.{_≡_, refl, ap, _∙_, sym, subst}
-use mathlib.Core.Bool.{true, false}
+-- Demand 2, proved.
+use Prim.Native.Nat.{ℕ, zero, suc, _+_, _≤_}
+use mathlib.Core.Path.{_≡_, refl, ap, ap₂, sym, subst, _∙_}
+use mathlib.Core.Bool.{Bool, true, false, cond, not, _&&_}
 use mathlib.Core.List.{List, [], _∷_, _++_, append-nil}
-use mathlib.Core.Option.{some}
+use mathlib.Core.Option.{Option, none, some}
 use native.Mathlib.Omega.{arith}
-use lib.ListN.{length, drop, length-append}
+use lib.Dec.{eqb}
+use lib.ListN.{length, take, drop, length-append, take-append-drop, getD}
 use lib.Seq.{take-at, drop-at}
-use Rattle.packet.specs.Calls.{Served, andThen, callsOn, servedOne, Call, served, joined}
-use Rattle.packet.specs.Packet.{packetOf, hostRead, readResponse, whole}
-use Rattle.packet.specs.Stream.{hasPacket, packets, rest}
-use Rattle.packet.specs.Receiver.{with, waiting as receiverWaiting}
+use borrow.Author.Tests.{eqb-true, le-ltb}
+use Rattle.packet.specs.Calls.{Call, Served, andThen, callsOn, servedOne, served}
+use Rattle.packet.specs.Number.{Bytes, bytesOf}
+use Rattle.packet.specs.Packet.{typeOf, flagsOf, packetOf, sealed, checksum, sum, error, hostWrite, hostRead, writeResponse, whole}
+use Rattle.packet.specs.Receiver.{Receiver, Received, with, waiting as receiverWaiting, packetInRule}
+use Rattle.packet.specs.Stream.{size, hasPacket, packets, rest}
 use Rattle.packet.specs.Writer.{written}
-use Rattle.packet.specs.declared.receiver.Receiver.{Receiver}
+use Rattle.packet.proofs.Cases.{bool-cases, and-left}
 use Rattle.packet.proofs.Calls.{same-calls, in-pieces}
-use Rattle.packet.proofs.StreamLaws.{IsPacket, packets-cons, rest-cons, packets-none, rest-none, packet-induction, packets-nil}
-use Rattle.packet.proofs.ReceiverLaws.{Between}
-use Rattle.command.specs.Table.{cmd1For, cmd2For, same, layout, readable}
-use Rattle.command.specs.Settings.{valuesAfter, store}
+use Rattle.packet.proofs.StreamLaws.{IsPacket, packets-cons, rest-cons, packets-none, rest-none, first-packet, packet-induction, packets-nil, rest-nil}
+use Rattle.packet.proofs.ReceiverLaws.{Between, with-nil}
+use Rattle.packet.proofs.WriterLaws.{packet-written}
+use Rattle.command.specs.Table.{cmd1For, cmd2For, same, layout, sizeOf, readable}
+use Rattle.command.specs.Settings.{factory, valuesAfter, store}
 use Rattle.command.specs.Rules.{allowed, blocked}
 use Rattle.command.specs.Data.{joinAll}
-use Rattle.command.specs.Value.{dataOf, commandIn, valuesIn}
-use Rattle.command.specs.Transfer.{Closed}
-use Rattle.command.specs.Faults.{Arrived, arrived, wrongCommand}
-use Rattle.command.specs.Judgement.{judgeRead, judgeData}
-use Rattle.command.specs.Response.{response}
-use Rattle.command.specs.Controller.{heldIn, transferIn}
-use Rattle.command.specs.Endpoint.{receiveCall}
-use Rattle.command.specs.Player.{from, judged, next, State, responses, after}
-use Rattle.command.specs.Encoder.{writePacket, encoded}
+use Rattle.command.specs.Value.{commandIn, valuesIn, dataIn, dataOf}
+use Rattle.command.specs.Transfer.{Transfer, Closed}
+use Rattle.command.specs.Faults.{Arrived, arrived, wrongCommand, modeFault, listIf, codesOf}
+use Rattle.command.specs.Judgement.{completes, judgeRead, judgeData}
+use Rattle.command.specs.Carry.{settingsAfter, transferAfter}
+use Rattle.command.specs.Response.{responseType, response}
+use Rattle.command.specs.Player.{State, from, judged, next, responses, after}
+use Rattle.command.specs.Controller.{transferIn, stateOf, receiverIn, transferInRule, zeros, fresh}
+use Rattle.command.specs.Endpoint.{takenBy, After, responseIn, waiting, answered, receiveCall}
+use Rattle.command.specs.Encoder.{After as Encoding, writePacket, encoded, writes, encodeCall}
+use Rattle.command.specs.Demand2.{shown, Head, serves, Sending, sentTo, Ready, Boundary, Idle, Follows, Fit, Legal, atStart, packetBy, acknowledgement, notInMode, readPacket, readAnswer, ReadBack, Blocked, Remade, Demand2}
 use Rattle.command.specs.declared.table.Command.{Command}
+use Rattle.command.specs.declared.table.Command.the-variants.{SequenceRun}
 use Rattle.command.specs.declared.settings.Settings.{Settings}
 use Rattle.command.specs.declared.value.Value.{Value}
-use Rattle.command.specs.declared.judgement.Judgement.the-variants.{Read, Write}
+use Rattle.command.specs.declared.transfer.TransferState.{TransferState}
+use Rattle.command.specs.declared.judgement.Judgement.{Judgement}
+use Rattle.command.specs.declared.judgement.Judgement.the-variants.{Error, Hold, Write, Read}
 use Rattle.command.specs.declared.controller.Controller.{Controller}
-use Rattle.command.proofs.table.Laws.{Fit, fit-length, each}
-use Rattle.command.proofs.rules.Laws.{values-store}
-use Rattle.command.proofs.endpoint.Laws.{serves, Ready, endpoint-streams}
-use Rattle.command.proofs.endpoint.Boundary.{stateOf, part-state, drawn, takes-packet, takes-part}
-use Rattle.command.proofs.encoder.Laws.{arrived-plain, judge-plain, next-write, encoder-judged}
+use Rattle.command.proofs.table.Laws.{each, same-eq, fit-length, size-small, Fit as LawFit}
+use Rattle.command.proofs.rules.Laws.{values-store, Writable, kept-factory, in-rule-of}
+use Rattle.command.proofs.data.Laws.{length-join}
+use Rattle.command.proofs.transfer.Laws.{by-transfer}
+use Rattle.command.proofs.judgement.Laws.{judge-cases, Sound, sound}
+use Rattle.command.proofs.controller.Laws.{rule-parts, rule-whole}
+use Rattle.command.proofs.endpoint.Laws.{serves as servesWith, ends, call-is, stays-in-rule, endpoint-streams}
+use Rattle.command.proofs.endpoint.Boundary.{drawn, takes-packet, takes-part}
+use Rattle.command.proofs.encoder.Laws.{plain, arrived-plain, judge-plain, write-packet, encoder-judged, accepted-encodes}
 
--- However the byte stream was cut.
+-- A call's answer and controller do not depend on what its output holds.
 
--- What the calls on a stream answered and left is what playing its packets says: the responses in order, the settings and the open transfer,
--- and the receiver, which has what is left of the stream.
-pub record Follows (c : Controller) (b : List ℕ) (r : Served Controller (List ℕ)) : Type 0 where
-  pub given : r .given ≡ responses (stateOf c) (packets b)
-  pub ends : stateOf (r .state) ≡ after (stateOf c) (packets b)
-  pub base : Receiver
-  pub boundary : Between base
-  pub left : r .state .receiver ≡ with base (heldIn (r .state .transfer)) (rest b)
+same-ends : (c : Controller) (t : Received) (out other : List ℕ) → shown (ends c out t) ≡ shown (ends c other t)
+same-ends c t out other = go (t .complete)
+  where
+    go : (b : Bool) → shown (cond b (answered c t out) (waiting c t out)) ≡ shown (cond b (answered c t other) (waiting c t other))
+    go true =
+        unfold written in
+        let m : List ℕ = responseIn c t in
+        rw (take-at m (drop (length m) out) (length m) refl, take-at m (drop (length m) other) (length m) refl)
+    go false = refl
 
--- On one piece of a stream the calls follow one another; on a head in rule they are those of the definitions.
+module _ (outs : ℕ → List ℕ) (room : (i : ℕ) → 64 ≤ length (outs i)) (out : List ℕ) (l : 64 ≤ length out) where
+  same-call : (h : Head) (b : List ℕ) → Ready (h .controller) → shown (receiveCall (h .controller) b (outs (h .calls))) ≡ servesWith out (h .controller) b
+  same-call h b k =
+      let c = h .controller in
+      let o = outs (h .calls) in
+      ap shown (call-is c b o k (room (h .calls)) refl) ∙ same-ends c (takenBy c b) o out ∙ sym (ap shown (call-is c b out k l refl))
+
+  -- the calls without their count
+  abbrev forget : Served Head (List ℕ) → Served Controller (List ℕ)
+  forget r = record { given = r .given; state = r .state .controller }
+
+  forget-then : (o : Option (List ℕ)) (h : Head) (r : Served Head (List ℕ)) → forget (andThen o h r) ≡ andThen o (h .controller) (forget r)
+  forget-then none h r = refl
+  forget-then (some e) h r = refl
+
+  same-on : (n : ℕ) (h : Head) (b : List ℕ) → Ready (h .controller) → forget (callsOn (serves outs) n h b) ≡ callsOn (servesWith out) n (h .controller) b
+  unfolding callsOn
+  same-on zero h b k = refl
+  same-on (suc n) h b k =
+      let t = serves outs h b in
+      let d = receiveCall (h .controller) b (outs (h .calls)) .controller in
+      let more = callsOn (serves outs) n (t .state) (drop (t .taken) b) in
+      forget-then (t .gives) (t .state) more
+      ∙ ap (andThen (t .gives) d) (same-on n (t .state) (drop (t .taken) b) (stays-in-rule (h .controller) b (outs (h .calls)) k (room (h .calls))))
+      ∙ ap (λ (x : Call Controller (List ℕ)). andThen (x .gives) (x .state) (callsOn (servesWith out) n (x .state) (drop (x .taken) b))) (same-call h b k)
+
+  ready-on : (n : ℕ) (h : Head) (b : List ℕ) → Ready (h .controller) → Ready (callsOn (serves outs) n h b .state .controller)
+  unfolding callsOn
+  ready-on zero h b k = k
+  ready-on (suc n) h b k =
+      let t = serves outs h b in
+      let d = stays-in-rule (h .controller) b (outs (h .calls)) k (room (h .calls)) in
+      go (t .gives) (t .state) (callsOn (serves outs) n (t .state) (drop (t .taken) b)) d (ready-on n (t .state) (drop (t .taken) b) d)
+    where
+      go : (o : Option (List ℕ)) (h : Head) (r : Served Head (List ℕ)) → Ready (h .controller) → Ready (r .state .controller) → Ready (andThen o h r .state .controller)
+      go none h r i j = i
+      go (some e) h r i j = j
+
+  -- so that the calls are those with one output
+  same-served : (h : Head) (bs : List (List ℕ)) → Ready (h .controller) → forget (served (serves outs) h bs) ≡ served (servesWith out) (h .controller) bs
+  unfolding served servedOne
+  same-served h [] k = refl
+  same-served h (b ∷ bs) k =
+      let n = suc (length b) in
+      let x = callsOn (serves outs) n h b in
+      ap (λ (y : Served Controller (List ℕ)). record { given = x .given ++ y .given; state = y .state }) (same-served (x .state) bs (ready-on n h b k))
+      ∙ ap (λ (y : Served Controller (List ℕ)).
+      record { given = y .given ++ served (servesWith out) (y .state) bs .given; state = served (servesWith out) (y .state) bs .state }) (same-on n h b k)
+
+-- However the byte stream was cut, it is as if it came at once.
+at-once : (out : List ℕ) → 64 ≤ length out → (c : Controller) (b : List ℕ) (s : Sending b) → Ready c → sentTo c s ≡ servedOne (servesWith out) c b
+at-once out l c b s k =
+    same-served (s .outs) (s .room) out l (record { calls = 0; controller = c }) (s .pieces) k
+    ∙ in-pieces (servesWith out) Ready (endpoint-streams out l) c (s .pieces) k
+    ∙ ap (servedOne (servesWith out) c) (s .bytes)
+
+cut-anyhow : (c : Controller) (b : List ℕ) (s t : Sending b) → Ready c → sentTo c s ≡ sentTo c t
+cut-anyhow c b s t k = at-once (s .outs 0) (s .room 0) c b s k ∙ sym (at-once (s .outs 0) (s .room 0) c b t k)
+
+between-of : {c : Controller} → Boundary c → Between (receiverIn c)
+between-of q = record { header = q .ready .header; received = q .received }
+
+-- The stream at once, packet by packet.
 module _ (out : List ℕ) (l : 64 ≤ length out) where
-  -- Demand 2, however the byte stream was cut: the responses in order and the controller at the end are those of the joined bytes.
-  pub cut-anywhere : (c : Controller) (bs : List (List ℕ)) → Ready c → served (serves out) c bs ≡ servedOne (serves out) c (joined bs)
-  cut-anywhere c bs k = in-pieces (serves out) Ready (endpoint-streams out l) c bs k
-
-  -- the claim of `follows` for one stream
+  -- the claim for one stream
   abbrev Claim : List ℕ → Type 0
-  Claim b = (c : Controller) → Ready c → Between (c .receiver) → Follows c b (servedOne (serves out) c b)
+  Claim b = (c : Controller) → Boundary c → Follows c b (servedOne (servesWith out) c b)
 
   follows-none : (b : List ℕ) → hasPacket b ≡ false → Claim b
   unfolding servedOne callsOn responses after receiverWaiting
-  follows-none b h c k q =
-      rw (takes-part out l c k q b h)
+  follows-none b h c q =
+      let e = takes-part out l c (q .ready) (between-of q) b h in
+      rw e
       (record {
         given = sym (ap (responses (stateOf c)) (packets-none b h));
-        ends = part-state c b k q ∙ sym (ap (after (stateOf c)) (packets-none b h));
-        base = c .receiver;
-        boundary = q;
-        left = ap (with (c .receiver) (heldIn (c .transfer))) (sym (rest-none b h));
+        ends = sym (ap (after (stateOf c)) (packets-none b h));
+        base = receiverIn c;
+        boundary = q .received;
+        unfinished = ap (with 0 (receiverIn c)) (sym (rest-none b h));
+        ready = subst (λ (r : After). Ready (r .controller)) e (stays-in-rule c b out (q .ready) l);
       })
 
   -- one packet more
   follows-more : (p b : List ℕ) → IsPacket p → Claim b → Claim (p ++ b)
   unfolding servedOne callsOn responses after written
-  follows-more p b i ih c k q =
-      let t = takes-packet out l c k q p b i in
+  follows-more p b i ih c q =
+      let t = takes-packet out l c (q .ready) (between-of q) p b i in
       let d : Controller = receiveCall c (p ++ b) out .controller in
       let m : List ℕ = drawn c p in
       let n : length (p ++ b) ≡ length p + length b = length-append p b in
-      let e : serves out c (p ++ b) ≡ record { taken = length p; gives = some m; state = d } =
+      let e : servesWith out c (p ++ b) ≡ record { taken = length p; gives = some m; state = d } =
       rw (t .answer, t .output, take-at m (drop (length m) out) (length m) refl) in
-      let more : callsOn (serves out) (length (p ++ b)) d (drop (length p) (p ++ b)) ≡ servedOne (serves out) d b =
-      ap (callsOn (serves out) (length (p ++ b)) d) (drop-at p b (length p) refl)
-      ∙ same-calls (serves out) Ready (endpoint-streams out l) (length (p ++ b)) (suc (length b)) d b (t .ready) (omega (arith, i .least)) (omega arith) in
-      let f : servedOne (serves out) c (p ++ b) ≡ record { given = m ∷ servedOne (serves out) d b .given; state = servedOne (serves out) d b .state } =
-      ap (λ (x : Call Controller (List ℕ)). andThen (x .gives) (x .state) (callsOn (serves out) (length (p ++ b)) (x .state) (drop (x .taken) (p ++ b)))) e
+      let more : callsOn (servesWith out) (length (p ++ b)) d (drop (length p) (p ++ b)) ≡ servedOne (servesWith out) d b =
+      ap (callsOn (servesWith out) (length (p ++ b)) d) (drop-at p b (length p) refl)
+      ∙ same-calls (servesWith out) Ready (endpoint-streams out l) (length (p ++ b)) (suc (length b)) d b (t .ready) (omega (arith, i .least)) (omega arith) in
+      let f : servedOne (servesWith out) c (p ++ b) ≡ record { given = m ∷ servedOne (servesWith out) d b .given; state = servedOne (servesWith out) d b .state } =
+      ap (λ (x : Call Controller (List ℕ)). andThen (x .gives) (x .state) (callsOn (servesWith out) (length (p ++ b)) (x .state) (drop (x .taken) (p ++ b)))) e
       ∙ ap (λ (x : Served Controller (List ℕ)). andThen (some m) d x) more in
-      let g = ih d (t .ready) (t .boundary) in
+      let g = ih d (record { ready = t .ready; received = t .boundary .received }) in
       subst (Follows c (p ++ b)) (sym f)
       (record {
         given = rw (packets-cons p b i) (ap {B = List (List ℕ)} (λ xs. m ∷ xs) (g .given ∙ ap (λ (a : State). responses a (packets b)) (t .state)));
         ends = rw (packets-cons p b i) (g .ends ∙ ap (λ (a : State). after a (packets b)) (t .state));
         base = g .base;
         boundary = g .boundary;
-        left = rw (rest-cons p b i) (g .left);
+        unfinished = rw (rest-cons p b i) (g .unfinished);
+        ready = g .ready;
       })
 
-  -- Demand 2, over whole streams: on every head in rule at a packet boundary, the responses in order, the settings, the open transfer and the unfinished packet
-  -- are those of playing the bytes.
-  pub follows : (b : List ℕ) → Claim b
-  follows = packet-induction Claim follows-none follows-more
+  follows-once : (b : List ℕ) → Claim b
+  follows-once = packet-induction Claim follows-none follows-more
+
+-- Responses and settings follow document 01.
+follows-played : (c : Controller) (b : List ℕ) (s : Sending b) → Boundary c → Follows c b (sentTo c s)
+follows-played c b s q =
+    subst (Follows c b) (sym (at-once (s .outs 0) (s .room 0) c b s (q .ready))) (follows-once (s .outs 0) (s .room 0) b c q)
+
+-- One whole packet alone.
+
+alone : (p : List ℕ) → IsPacket p → (packets p ≡ p ∷ []) × (rest p ≡ [])
+alone p i = (
+  sym (ap packets (append-nil p)) ∙ packets-cons p [] i ∙ ap {B = List (List ℕ)} (λ ps. p ∷ ps) packets-nil,
+  sym (ap rest (append-nil p)) ∙ rest-cons p [] i ∙ rest-nil,
+)
+
+first-of-two : (q p : List ℕ) (qs ps : List (List ℕ)) → q ∷ qs ≡ p ∷ ps → q ≡ p
+first-of-two q p qs ps f = cc
+
+-- bytes of which all are one packet are a whole packet
+is-packet : (p : List ℕ) → packets p ≡ p ∷ [] → IsPacket p
+is-packet p e =
+    bool-cases (hasPacket p)
+    (λ h.
+    let q : List ℕ = take (size p) p in
+    let d : List ℕ = drop (size p) p in
+    let f : q ∷ packets d ≡ p ∷ [] = sym (packets-cons q d (first-packet p h)) ∙ ap packets (take-append-drop (size p) p) ∙ e in
+    subst IsPacket (first-of-two q p (packets d) [] f) (first-packet p h))
+    (λ h. let f = sym (packets-none p h) ∙ e in let z : _≡_ {A = ℕ} 0 1 = cc in absurd (omega arith))
+
+-- A head with no transfer open.
+
+state-closed : (c : Controller) → Idle c → stateOf c ≡ from (c .registers .settings)
+state-closed c i = rw (i .closed)
+
+none-active : (t : TransferState) (buffer : List ℕ) → transferInRule t ≡ true → transferIn t buffer ≡ Closed → t .active ≡ 0
+none-active t buffer r e =
+    by-transfer t r (λ a. eqb-true (t .active) 0 a)
+    (λ c a k.
+    let f = sym (rw (a, k) at e) in
+    let z : _≡_ {A = ℕ} 0 1 = cc in absurd (omega arith))
+
+-- what a run leaves with no packet half sent and no transfer open
+left-idle : {c : Controller} {b : List ℕ} {r : Served Controller (List ℕ)} {s : Settings} → Follows c b r → rest b ≡ [] → after (stateOf c) (packets b) ≡ from s → Idle (r .state)
+left-idle {c} {b} {r} f e g =
+    record {
+      boundary = record {
+        ready = f .ready;
+        received = ap (λ (x : Receiver). x .received) (f .unfinished ∙ ap (with 0 (f .base)) e ∙ with-nil 0 (f .base)) ∙ f .boundary;
+      };
+      closed =
+          none-active (r .state .registers .transfer) (r .state .buffer) (rule-parts (r .state .registers) (f .ready .rule) .transfer)
+          (ap (λ (a : State). a .transfer) (f .ends ∙ g));
+    }
+
+-- one whole packet sent to such a head, and judged so that no transfer is opened
+pub record Once (c : Controller) (p : List ℕ) (j : Judgement) (r : Served Controller (List ℕ)) : Type 0 where
+  pub given : r .given ≡ response (c .registers .settings) (arrived p) j ∷ []
+  pub settings : r .state .registers .settings ≡ settingsAfter (c .registers .settings) j
+  pub idle : Idle (r .state)
+
+once : (c : Controller) (p : List ℕ) (s : Sending p) (j : Judgement) → Idle c → IsPacket p → judged (from (c .registers .settings)) p ≡ j
+    → transferAfter Closed (arrived p) j ≡ Closed → Once c p j (sentTo c s)
+unfolding responses after next
+once c p s j i k e t =
+    let f = follows-played c p s (i .boundary) in
+    let a : after (stateOf c) (packets p) ≡ from (settingsAfter (c .registers .settings) j) =
+    ap₂ after (state-closed c i) (alone p k .0)
+    ∙ ap (λ (x : Judgement). record { settings = settingsAfter (c .registers .settings) x; transfer = transferAfter Closed (arrived p) x }) e
+    ∙ ap (λ (x : Transfer). record { settings = settingsAfter (c .registers .settings) j; transfer = x }) t in
+    record {
+      given =
+          f .given
+          ∙ ap₂ responses (state-closed c i) (alone p k .0)
+          ∙ ap {B = List (List ℕ)} (λ (x : Judgement). response (c .registers .settings) (arrived p) x ∷ []) e;
+      settings = ap (λ (x : State). x .settings) (f .ends ∙ a);
+      idle = left-idle f (alone p k .1) a;
+    }
 
 -- Our own encoder's packet.
 
--- one packet alone
-only : (p : List ℕ) → IsPacket p → packets p ≡ p ∷ []
-only p i = sym (ap packets (append-nil p)) ∙ packets-cons p [] i ∙ ap {B = List (List ℕ)} (λ ps. p ∷ ps) packets-nil
+law-fit : (ws vs : List ℕ) → Fit ws vs → LawFit ws vs
+law-fit [] [] f = tt
+law-fit [] (v ∷ vs) f = absurd f
+law-fit (w ∷ ws) [] f = absurd f
+law-fit (w ∷ ws) (v ∷ vs) f = (f .0, law-fit ws vs (f .1))
 
--- what is left and answered when one whole write is carried out
-write-after : (v : Value) (s : Settings) → judged (from s) (encoded v) ≡ Write v → next (from s) (encoded v) ≡ from (store (commandIn v) (valuesIn v) s)
-unfolding next
-write-after v s e = rw e
+encodes : (v : Value) (out : List ℕ) → allowed (commandIn v) (valuesIn v) ≡ true → 64 ≤ length out → encodeCall v out ≡ writes (encoded v) out
+unfolding encodeCall
+encodes v out a l = rw (le-ltb (length out) 64 l, a)
 
--- Demand 2: on every head in rule, at a packet boundary with no transfer open, the packet of a legal write that is not run 1 outside mode 4 draws one response,
--- and the head ends with just that write stored.
-pub encoder-received : (out : List ℕ) → 64 ≤ length out → (c : Controller) → Ready c → Between (c .receiver) → transferIn (c .transfer) (c .receiver .hold) ≡ Closed
-    → (v : Value) → Fit (layout (commandIn v)) (valuesIn v) → allowed (commandIn v) (valuesIn v) ≡ true → blocked (commandIn v) (valuesIn v) (c .settings .mode) ≡ false
-    → (servedOne (serves out) c (encoded v) .given ≡ response (c .settings) (arrived (encoded v)) (Write v) ∷ [])
-    × (stateOf (servedOne (serves out) c (encoded v) .state) ≡ from (store (commandIn v) (valuesIn v) (c .settings)))
-unfolding responses after
-encoder-received out l c k q t v f a b =
-    let j = encoder-judged v (c .settings) f a in
-    let w : judged (from (c .settings)) (encoded v) ≡ Write v = j .1 ∙ rw b in
-    let s : stateOf c ≡ from (c .settings) = ap (λ x. record { settings = c .settings; transfer = x }) t in
-    let r = follows out l (encoded v) c k q in (
-      r .given ∙ ap (λ (x : State). responses x (packets (encoded v))) s ∙ ap (responses (from (c .settings))) (only (encoded v) (j .0))
-          ∙ ap (λ x. response (c .settings) (arrived (encoded v)) x ∷ []) w,
-      r .ends ∙ ap (λ (x : State). after x (packets (encoded v))) s ∙ ap (after (from (c .settings))) (only (encoded v) (j .0)) ∙ write-after v (c .settings) w,
-    )
+module _ (v : Value) (g : Legal v) where
+  fit : LawFit (layout (commandIn v)) (valuesIn v)
+  fit = law-fit (layout (commandIn v)) (valuesIn v) (g .fit)
+
+  packet-is : (out : List ℕ) → 64 ≤ length out → packetBy v out ≡ encoded v
+  unfolding written
+  packet-is out l =
+      ap (λ (r : Encoding). atStart (r .answer) (r .output)) (encodes v out (g .values) l)
+      ∙ take-at (encoded v) (drop (length (encoded v)) out) (length (encoded v)) refl
+
+  -- judged, with no transfer open
+  judged-as : (s : Settings) → judged (from s) (encoded v) ≡ cond (blocked (commandIn v) (valuesIn v) (s .mode)) (Error modeFault) (Write v)
+  judged-as s = encoder-judged v s fit (g .values) .1
+
+  one-packet : IsPacket (encoded v)
+  unfolding encoded dataIn
+  one-packet = write-packet (commandIn v) (valuesIn v) fit (g .values)
+
+  arrives : arrived (encoded v) ≡ plain hostWrite (commandIn v) (dataIn v)
+  unfolding encoded writePacket dataIn sizeOf
+  arrives =
+      let n = length-join (layout (commandIn v)) (valuesIn v) (fit-length (layout (commandIn v)) (valuesIn v) fit) in
+      arrived-plain hostWrite (commandIn v) (joinAll (layout (commandIn v)) (valuesIn v)) (omega (arith, n, size-small (commandIn v)))
+
+-- the two responses that it can draw, byte by byte
+acknowledged-by : (c : Command) → packetOf writeResponse (cmd1For c) (cmd2For c) whole [] ≡ acknowledgement c
+unfolding packetOf sealed checksum sum bytesOf
+acknowledged-by =
+    each (λ c. packetOf writeResponse (cmd1For c) (cmd2For c) whole [] ≡ acknowledgement c) (refl, refl, refl, refl, refl, refl, refl, refl, refl)
+
+blocked-run : (c : Command) (v : List ℕ) (mode : ℕ) → blocked c v mode ≡ true → packetOf error (cmd1For c) (cmd2For c) whole (codesOf modeFault) ≡ notInMode
+unfolding blocked packetOf sealed checksum sum bytesOf codesOf listIf
+blocked-run c v mode b =
+    ap (λ (d : Command). packetOf error (cmd1For d) (cmd2For d) whole (codesOf modeFault))
+    (same-eq c SequenceRun (and-left (same c SequenceRun) (eqb (getD v 0 0) 1) (and-left (same c SequenceRun && eqb (getD v 0 0) 1) (not (eqb mode 4)) b)))
+
+module _ (v : Value) (out : List ℕ) (g : Legal v) (l : 64 ≤ length out) where
+  abbrev p : List ℕ
+  p = packetBy v out
+
+  p-is : p ≡ encoded v
+  p-is = packet-is v g out l
+
+  p-packet : IsPacket p
+  p-packet = subst IsPacket (sym p-is) (one-packet v g)
+
+  p-judged : (s : Settings) → judged (from s) p ≡ cond (blocked (commandIn v) (valuesIn v) (s .mode)) (Error modeFault) (Write v)
+  p-judged s = ap (judged (from s)) p-is ∙ judged-as v g s
+
+  p-arrives : arrived p ≡ plain hostWrite (commandIn v) (dataIn v)
+  p-arrives = ap arrived p-is ∙ arrives v g
+
+  written-whole : (encodeCall v out ≡ writes p out) × (packets p ≡ p ∷ [])
+  written-whole = (encodes v out (g .values) l ∙ sym (ap (λ (x : List ℕ). writes x out) p-is), alone p p-packet .0)
+
+  acknowledges : (s : Settings) → response s (arrived p) (Write v) ≡ acknowledgement (commandIn v)
+  unfolding response
+  acknowledges s = ap (λ (q : Arrived). response s q (Write v)) p-arrives ∙ acknowledged-by (commandIn v)
+
+  module _ (c : Controller) (i : Idle c) where
+    read-back : (s : Sending p) → blocked (commandIn v) (valuesIn v) (c .registers .settings .mode) ≡ false → ReadBack v c p (sentTo c s)
+    read-back s b =
+        let w : judged (from (c .registers .settings)) p ≡ Write v = p-judged (c .registers .settings) ∙ rw b in
+        let o = once c p s (Write v) i p-packet w refl in
+        record {
+          judgement = ap (λ (a : State). judged a p) (state-closed c i) ∙ w;
+          given = o .given ∙ ap {B = List (List ℕ)} (λ r. r ∷ []) (acknowledges (c .registers .settings));
+          settings = o .settings;
+          idle = o .idle;
+        }
+
+    blocked-back : (s : Sending p) → blocked (commandIn v) (valuesIn v) (c .registers .settings .mode) ≡ true → Blocked c p (sentTo c s)
+    unfolding response
+    blocked-back s b =
+        let w : judged (from (c .registers .settings)) p ≡ Error modeFault = p-judged (c .registers .settings) ∙ rw b in
+        let o = once c p s (Error modeFault) i p-packet w refl in
+        record {
+          judgement = ap (λ (a : State). judged a p) (state-closed c i) ∙ w;
+          given =
+              o .given
+              ∙ ap {B = List (List ℕ)} (λ (q : Arrived). response (c .registers .settings) q (Error modeFault) ∷ []) p-arrives
+              ∙ ap {B = List (List ℕ)} (λ r. r ∷ []) (blocked-run (commandIn v) (valuesIn v) (c .registers .settings .mode) b);
+          settings = o .settings;
+          idle = o .idle;
+        }
 
 -- A read that follows a write.
 
--- a read of a command: no request data
-abbrev pub readPacket : Command → List ℕ
-readPacket c = packetOf hostRead (cmd1For c) (cmd2For c) whole []
-
 -- every readable command is answered with its values, in the layout of its write
-pub read-answers : (s : Settings) (c : Command) → readable c ≡ true
-    → response s (arrived (readPacket c)) (judged (from s) (readPacket c)) ≡ packetOf readResponse (cmd1For c) (cmd2For c) whole (dataOf c s)
+read-answers : (s : Settings) (c : Command) → readable c ≡ true → response s (arrived (readPacket c)) (judged (from s) (readPacket c)) ≡ readAnswer c (dataOf c s)
 unfolding response judged wrongCommand judgeData judgeRead
 read-answers s c r =
     ap (response s (arrived (readPacket c))) (judge-plain hostRead c [] (rw r) (omega arith) (s .mode))
@@ -150,14 +363,112 @@ read-answers s c r =
 same-refl : (c : Command) → same c c ≡ true
 same-refl = each (λ c. same c c ≡ true) (refl, refl, refl, refl, refl, refl, refl, refl, refl)
 
-pub data-store : (c : Command) (v : List ℕ) (s : Settings) → length v ≡ length (layout c) → dataOf c (store c v s) ≡ joinAll (layout c) v
-unfolding dataOf valuesAfter
-data-store c v s h = rw (values-store c v s h c, same-refl c)
+data-store : (v : Value) (s : Settings) → length (valuesIn v) ≡ length (layout (commandIn v)) → dataOf (commandIn v) (store (commandIn v) (valuesIn v) s) ≡ dataIn v
+unfolding dataOf dataIn valuesAfter
+data-store v s h = rw (values-store (commandIn v) (valuesIn v) s h (commandIn v), same-refl (commandIn v))
 
--- a write and then a read of the same command: the answer is the data written
-pub read-back : (s : Settings) (c : Command) (v : List ℕ) → readable c ≡ true → Fit (layout c) v → allowed c v ≡ true → blocked c v (s .mode) ≡ false
-    → response (store c v s) (arrived (readPacket c)) (judged (next (from s) (writePacket c (joinAll (layout c) v))) (readPacket c))
-    ≡ packetOf readResponse (cmd1For c) (cmd2For c) whole (joinAll (layout c) v)
-read-back s c v r f a b =
-    rw (next-write c v f a s b .1)
-    (read-answers (store c v s) c r ∙ ap (packetOf readResponse (cmd1For c) (cmd2For c) whole) (data-store c v s (fit-length (layout c) v f)))
+reads-back : (v : Value) (out : List ℕ) → Legal v → 64 ≤ length out → (c : Controller) (s : Sending (packetBy v out ++ readPacket (commandIn v))) → Idle c
+    → blocked (commandIn v) (valuesIn v) (c .registers .settings .mode) ≡ false → readable (commandIn v) ≡ true
+    → sentTo c s .given ≡ acknowledgement (commandIn v) ∷ readAnswer (commandIn v) (dataIn v) ∷ []
+unfolding responses next
+reads-back v out g l c s i b r =
+    let x : Settings = c .registers .settings in
+    let y : Settings = store (commandIn v) (valuesIn v) (c .registers .settings) in
+    let p : List ℕ = packetBy v out in
+    let q : List ℕ = readPacket (commandIn v) in
+    let k : IsPacket (readPacket (commandIn v)) = packet-written hostRead (cmd1For (commandIn v)) (cmd2For (commandIn v)) whole [] (omega arith) in
+    let both : packets (p ++ q) ≡ p ∷ q ∷ [] = packets-cons p q (p-packet v out g l) ∙ ap {B = List (List ℕ)} (λ ps. p ∷ ps) (alone q k .0) in
+    let w : judged (from x) p ≡ Write v = p-judged v out g l x ∙ rw b in
+    let stored : next (from x) p ≡ from y = rw w in
+    follows-played c (p ++ q) s (i .boundary) .given
+    ∙ ap₂ responses (state-closed c i) both
+    ∙ ap₂ {C = List (List ℕ)} (λ m ms. m ∷ ms)
+    (ap (response x (arrived p)) w ∙ acknowledges v out g l x)
+    (ap (λ (a : State). responses a (q ∷ [])) stored
+    ∙ ap {B = List (List ℕ)} (λ m. m ∷ [])
+    (read-answers y (commandIn v) r
+    ∙ ap (readAnswer (commandIn v)) (data-store v x (fit-length (layout (commandIn v)) (valuesIn v) (fit v g)))))
+
+-- Every write accepted in one packet.
+
+-- with flags 00 nothing is held
+abbrev NotHeld : Judgement → Type 0
+NotHeld (Error k) = Unit {0}
+NotHeld (Hold c) = ⊥
+NotHeld (Write v) = Unit {0}
+NotHeld (Read c) = Unit {0}
+
+not-held : (a : State) (p : List ℕ) → flagsOf p ≡ whole → NotHeld (judged a p)
+unfolding judged
+not-held a p z =
+    judge-cases NotHeld (a .settings .mode) (a .transfer) (arrived p) (λ _. tt)
+    (λ c k e. record {
+      hold = λ f. let y : _≡_ {A = Bool} true false = sym (ap completes z) ∙ f in let x : _≡_ {A = ℕ} 0 1 = cc in absurd (omega arith);
+      read = λ _ _ _. tt;
+      asked = λ _ _ _. tt;
+      size = λ _ _ _. tt;
+      value = λ _ _ _ _. tt;
+      blocks = λ _ _ _ _ _. tt;
+      write = λ _ _ _ _. tt;
+    })
+
+-- so that what is acknowledged is a write carried out
+acknowledged-write : {P : Type 0} (j : Judgement) → NotHeld j → responseType j ≡ writeResponse → ((v : Value) → j ≡ Write v → P) → P
+acknowledged-write (Error k) n t f = absurd (omega arith)
+acknowledged-write (Hold c) n t f = absurd n
+acknowledged-write (Write v) n t f = f v refl
+acknowledged-write (Read c) n t f = absurd (omega arith)
+
+-- a response's type is that of its judgement
+type-of : (s : Settings) (q : Arrived) (j : Judgement) (m : List ℕ) → m ∷ [] ≡ response s q j ∷ [] → typeOf m ≡ responseType j
+unfolding response packetOf sealed
+type-of s q j m e = ap typeOf (first-of-two m (response s q j) [] [] e)
+
+remakes : (c : Controller) (p m : List ℕ) (s : Sending p) → Boundary c → Bytes p → packets p ≡ p ∷ [] → flagsOf p ≡ whole
+    → sentTo c s .given ≡ m ∷ [] → typeOf m ≡ writeResponse → Remade c p (sentTo c s)
+unfolding responses after next
+remakes c p m s q b o z e t =
+    let f = follows-played c p s q in
+    let a : State = stateOf c in
+    let drew : m ∷ [] ≡ response (a .settings) (arrived p) (judged a p) ∷ [] = sym e ∙ f .given ∙ ap (responses a) o in
+    acknowledged-write (judged a p) (not-held a p z) (sym (type-of (a .settings) (arrived p) (judged a p) m drew) ∙ t)
+    (λ v w. record {
+      write = v;
+      judgement = w;
+      settings = ap (λ (x : State). x .settings) (f .ends ∙ ap (after a) o) ∙ ap (settingsAfter (a .settings)) w;
+      encodes = λ out l.
+          encodes v out (writable a p v w .values) l ∙ ap (λ (x : List ℕ). writes x out) (accepted-encodes p b (is-packet p o) a v z w);
+    })
+  where
+    writable : (a : State) (p : List ℕ) (v : Value) → judged a p ≡ Write v → Writable (a .settings .mode) (commandIn v) (valuesIn v)
+    writable a p v w = subst (Sound (a .settings .mode)) w (unfold judged in sound (a .settings .mode) (a .transfer) (arrived p))
+
+-- A fresh head.
+fresh-idle : Idle fresh
+unfolding transferInRule packetInRule zeros
+fresh-idle =
+    record {
+      boundary = record {
+        ready = record {
+          rule = rule-whole _ (record { settings = in-rule-of factory kept-factory; transfer = refl; packet = refl });
+          header = refl;
+          buffer = refl;
+          hold = refl;
+        };
+        received = refl;
+      };
+      closed = refl;
+    }
+
+pub demand2 : Demand2
+demand2 =
+    record {
+      cut = cut-anyhow;
+      follows = follows-played;
+      encoder = written-whole;
+      accepted = λ v out g l c s i b. read-back v out g l c i s b;
+      blocks = λ v out g l c s i b. blocked-back v out g l c i s b;
+      reads = reads-back;
+      remade = remakes;
+      begins = fresh-idle;
+    }

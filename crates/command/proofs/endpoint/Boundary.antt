@@ -22,7 +22,7 @@ use Rattle.command.specs.Judgement.{judgeAs, judge}
 use Rattle.command.specs.Carry.{settingsAfter, transferAfter}
 use Rattle.command.specs.Response.{response}
 use Rattle.command.specs.Player.{judged, next}
-use Rattle.command.specs.Controller.{heldIn, transferIn, stateOf, receiverIn}
+use Rattle.command.specs.Controller.{heldIn, stateOf, receiverIn}
 use Rattle.command.specs.Endpoint.{arrivedIn, judgedIn, responseIn, carriedOut, After, waiting, receiveCall}
 use Rattle.command.specs.Demand2.{Ready}
 use Rattle.command.specs.declared.table.Found.{Found}
