@@ -1,24 +1,22 @@
 -- Demand 2, proved.
-use Prim.Native.Nat.{ℕ, zero, suc, _+_, _≤_}
+use Prim.Native.Nat.{ℕ, _+_, _≤_}
 use mathlib.Core.Path.{_≡_, refl, ap, ap₂, sym, subst, _∙_}
 use mathlib.Core.Bool.{Bool, true, false, cond, not, _&&_}
 use mathlib.Core.List.{List, [], _∷_, _++_, append-nil}
-use mathlib.Core.Option.{Option, none, some}
 use native.Mathlib.Omega.{arith}
 use lib.Dec.{eqb}
-use lib.ListN.{length, take, drop, length-append, take-append-drop, getD}
-use lib.Seq.{take-at, drop-at}
+use lib.ListN.{length, take, drop, take-append-drop, getD}
+use lib.Seq.{take-at}
 use borrow.Author.Tests.{eqb-true, le-ltb}
-use Rattle.packet.specs.Calls.{Call, Served, andThen, callsOn, servedOne, served}
+use Rattle.packet.specs.Calls.{Served}
 use Rattle.packet.specs.Number.{Bytes, bytesOf}
 use Rattle.packet.specs.Packet.{typeOf, flagsOf, packetOf, sealed, checksum, sum, error, hostWrite, hostRead, writeResponse, whole}
-use Rattle.packet.specs.Receiver.{Receiver, Received, with, waiting as receiverWaiting, packetInRule}
+use Rattle.packet.specs.Receiver.{Receiver, with, packetInRule}
 use Rattle.packet.specs.Stream.{size, hasPacket, packets, rest}
 use Rattle.packet.specs.Writer.{written}
 use Rattle.packet.proofs.Cases.{bool-cases, and-left}
-use Rattle.packet.proofs.Calls.{same-calls, in-pieces}
-use Rattle.packet.proofs.StreamLaws.{IsPacket, packets-cons, rest-cons, packets-none, rest-none, first-packet, packet-induction, packets-nil, rest-nil}
-use Rattle.packet.proofs.ReceiverLaws.{Between, with-nil}
+use Rattle.packet.proofs.StreamLaws.{IsPacket, packets-cons, rest-cons, packets-none, first-packet, packets-nil, rest-nil}
+use Rattle.packet.proofs.ReceiverLaws.{with-nil}
 use Rattle.packet.proofs.WriterLaws.{packet-written}
 use Rattle.command.specs.Table.{cmd1For, cmd2For, same, layout, sizeOf, readable}
 use Rattle.command.specs.Settings.{factory, valuesAfter, store}
@@ -31,10 +29,9 @@ use Rattle.command.specs.Judgement.{completes, judgeRead, judgeData}
 use Rattle.command.specs.Carry.{settingsAfter, transferAfter}
 use Rattle.command.specs.Response.{responseType, response}
 use Rattle.command.specs.Player.{State, from, judged, next, responses, after}
-use Rattle.command.specs.Controller.{transferIn, stateOf, receiverIn, transferInRule, zeros, fresh}
-use Rattle.command.specs.Endpoint.{takenBy, After, responseIn, waiting, answered, receiveCall}
+use Rattle.command.specs.Controller.{transferIn, stateOf, transferInRule, zeros, fresh}
 use Rattle.command.specs.Encoder.{After as Encoding, writePacket, encoded, writes, encodeCall}
-use Rattle.command.specs.Demand2.{shown, Head, serves, Sending, sentTo, Ready, Boundary, Idle, Follows, Fit, Legal, atStart, packetBy, acknowledgement, notInMode, readPacket, readAnswer, ReadBack, Blocked, Remade, Demand2}
+use Rattle.command.specs.Demand2.{Sending, sentTo, Ready, Boundary, Idle, Follows, Fit, Legal, atStart, packetBy, acknowledgement, notInMode, readPacket, readAnswer, ReadBack, Blocked, Remade, Demand2}
 use Rattle.command.specs.declared.table.Command.{Command}
 use Rattle.command.specs.declared.table.Command.the-variants.{SequenceRun}
 use Rattle.command.specs.declared.settings.Settings.{Settings}
@@ -49,138 +46,13 @@ use Rattle.command.proofs.data.Laws.{length-join}
 use Rattle.command.proofs.transfer.Laws.{by-transfer}
 use Rattle.command.proofs.judgement.Laws.{judge-cases, Sound, sound}
 use Rattle.command.proofs.controller.Laws.{rule-parts, rule-whole}
-use Rattle.command.proofs.endpoint.Laws.{serves as servesWith, ends, call-is, stays-in-rule, endpoint-streams}
-use Rattle.command.proofs.endpoint.Boundary.{drawn, takes-packet, takes-part}
+use Rattle.command.proofs.endpoint.Laws.{at-once}
+use Rattle.command.proofs.endpoint.Boundary.{follows-played}
 use Rattle.command.proofs.encoder.Laws.{plain, arrived-plain, judge-plain, write-packet, encoder-judged, accepted-encodes}
 
--- A call's answer and controller do not depend on what its output holds.
-
-same-ends : (c : Controller) (t : Received) (out other : List ℕ) → shown (ends c out t) ≡ shown (ends c other t)
-same-ends c t out other = go (t .complete)
-  where
-    go : (b : Bool) → shown (cond b (answered c t out) (waiting c t out)) ≡ shown (cond b (answered c t other) (waiting c t other))
-    go true =
-        unfold written in
-        let m : List ℕ = responseIn c t in
-        rw (take-at m (drop (length m) out) (length m) refl, take-at m (drop (length m) other) (length m) refl)
-    go false = refl
-
-module _ (outs : ℕ → List ℕ) (room : (i : ℕ) → 64 ≤ length (outs i)) (out : List ℕ) (l : 64 ≤ length out) where
-  same-call : (h : Head) (b : List ℕ) → Ready (h .controller) → shown (receiveCall (h .controller) b (outs (h .calls))) ≡ servesWith out (h .controller) b
-  same-call h b k =
-      let c = h .controller in
-      let o = outs (h .calls) in
-      ap shown (call-is c b o k (room (h .calls)) refl) ∙ same-ends c (takenBy c b) o out ∙ sym (ap shown (call-is c b out k l refl))
-
-  -- the calls without their count
-  abbrev forget : Served Head (List ℕ) → Served Controller (List ℕ)
-  forget r = record { given = r .given; state = r .state .controller }
-
-  forget-then : (o : Option (List ℕ)) (h : Head) (r : Served Head (List ℕ)) → forget (andThen o h r) ≡ andThen o (h .controller) (forget r)
-  forget-then none h r = refl
-  forget-then (some e) h r = refl
-
-  same-on : (n : ℕ) (h : Head) (b : List ℕ) → Ready (h .controller) → forget (callsOn (serves outs) n h b) ≡ callsOn (servesWith out) n (h .controller) b
-  unfolding callsOn
-  same-on zero h b k = refl
-  same-on (suc n) h b k =
-      let t = serves outs h b in
-      let d = receiveCall (h .controller) b (outs (h .calls)) .controller in
-      let more = callsOn (serves outs) n (t .state) (drop (t .taken) b) in
-      forget-then (t .gives) (t .state) more
-      ∙ ap (andThen (t .gives) d) (same-on n (t .state) (drop (t .taken) b) (stays-in-rule (h .controller) b (outs (h .calls)) k (room (h .calls))))
-      ∙ ap (λ (x : Call Controller (List ℕ)). andThen (x .gives) (x .state) (callsOn (servesWith out) n (x .state) (drop (x .taken) b))) (same-call h b k)
-
-  ready-on : (n : ℕ) (h : Head) (b : List ℕ) → Ready (h .controller) → Ready (callsOn (serves outs) n h b .state .controller)
-  unfolding callsOn
-  ready-on zero h b k = k
-  ready-on (suc n) h b k =
-      let t = serves outs h b in
-      let d = stays-in-rule (h .controller) b (outs (h .calls)) k (room (h .calls)) in
-      go (t .gives) (t .state) (callsOn (serves outs) n (t .state) (drop (t .taken) b)) d (ready-on n (t .state) (drop (t .taken) b) d)
-    where
-      go : (o : Option (List ℕ)) (h : Head) (r : Served Head (List ℕ)) → Ready (h .controller) → Ready (r .state .controller) → Ready (andThen o h r .state .controller)
-      go none h r i j = i
-      go (some e) h r i j = j
-
-  -- so that the calls are those with one output
-  same-served : (h : Head) (bs : List (List ℕ)) → Ready (h .controller) → forget (served (serves outs) h bs) ≡ served (servesWith out) (h .controller) bs
-  unfolding served servedOne
-  same-served h [] k = refl
-  same-served h (b ∷ bs) k =
-      let n = suc (length b) in
-      let x = callsOn (serves outs) n h b in
-      ap (λ (y : Served Controller (List ℕ)). record { given = x .given ++ y .given; state = y .state }) (same-served (x .state) bs (ready-on n h b k))
-      ∙ ap (λ (y : Served Controller (List ℕ)).
-      record { given = y .given ++ served (servesWith out) (y .state) bs .given; state = served (servesWith out) (y .state) bs .state }) (same-on n h b k)
-
--- However the byte stream was cut, it is as if it came at once.
-at-once : (out : List ℕ) → 64 ≤ length out → (c : Controller) (b : List ℕ) (s : Sending b) → Ready c → sentTo c s ≡ servedOne (servesWith out) c b
-at-once out l c b s k =
-    same-served (s .outs) (s .room) out l (record { calls = 0; controller = c }) (s .pieces) k
-    ∙ in-pieces (servesWith out) Ready (endpoint-streams out l) c (s .pieces) k
-    ∙ ap (servedOne (servesWith out) c) (s .bytes)
-
+-- However the byte stream was cut.
 cut-anyhow : (c : Controller) (b : List ℕ) (s t : Sending b) → Ready c → sentTo c s ≡ sentTo c t
 cut-anyhow c b s t k = at-once (s .outs 0) (s .room 0) c b s k ∙ sym (at-once (s .outs 0) (s .room 0) c b t k)
-
-between-of : {c : Controller} → Boundary c → Between (receiverIn c)
-between-of q = record { header = q .ready .header; received = q .received }
-
--- The stream at once, packet by packet.
-module _ (out : List ℕ) (l : 64 ≤ length out) where
-  -- the claim for one stream
-  abbrev Claim : List ℕ → Type 0
-  Claim b = (c : Controller) → Boundary c → Follows c b (servedOne (servesWith out) c b)
-
-  follows-none : (b : List ℕ) → hasPacket b ≡ false → Claim b
-  unfolding servedOne callsOn responses after receiverWaiting
-  follows-none b h c q =
-      let e = takes-part out l c (q .ready) (between-of q) b h in
-      rw e
-      (record {
-        given = sym (ap (responses (stateOf c)) (packets-none b h));
-        ends = sym (ap (after (stateOf c)) (packets-none b h));
-        base = receiverIn c;
-        boundary = q .received;
-        unfinished = ap (with 0 (receiverIn c)) (sym (rest-none b h));
-        ready = subst (λ (r : After). Ready (r .controller)) e (stays-in-rule c b out (q .ready) l);
-      })
-
-  -- one packet more
-  follows-more : (p b : List ℕ) → IsPacket p → Claim b → Claim (p ++ b)
-  unfolding servedOne callsOn responses after written
-  follows-more p b i ih c q =
-      let t = takes-packet out l c (q .ready) (between-of q) p b i in
-      let d : Controller = receiveCall c (p ++ b) out .controller in
-      let m : List ℕ = drawn c p in
-      let n : length (p ++ b) ≡ length p + length b = length-append p b in
-      let e : servesWith out c (p ++ b) ≡ record { taken = length p; gives = some m; state = d } =
-      rw (t .answer, t .output, take-at m (drop (length m) out) (length m) refl) in
-      let more : callsOn (servesWith out) (length (p ++ b)) d (drop (length p) (p ++ b)) ≡ servedOne (servesWith out) d b =
-      ap (callsOn (servesWith out) (length (p ++ b)) d) (drop-at p b (length p) refl)
-      ∙ same-calls (servesWith out) Ready (endpoint-streams out l) (length (p ++ b)) (suc (length b)) d b (t .ready) (omega (arith, i .least)) (omega arith) in
-      let f : servedOne (servesWith out) c (p ++ b) ≡ record { given = m ∷ servedOne (servesWith out) d b .given; state = servedOne (servesWith out) d b .state } =
-      ap (λ (x : Call Controller (List ℕ)). andThen (x .gives) (x .state) (callsOn (servesWith out) (length (p ++ b)) (x .state) (drop (x .taken) (p ++ b)))) e
-      ∙ ap (λ (x : Served Controller (List ℕ)). andThen (some m) d x) more in
-      let g = ih d (record { ready = t .ready; received = t .boundary .received }) in
-      subst (Follows c (p ++ b)) (sym f)
-      (record {
-        given = rw (packets-cons p b i) (ap {B = List (List ℕ)} (λ xs. m ∷ xs) (g .given ∙ ap (λ (a : State). responses a (packets b)) (t .state)));
-        ends = rw (packets-cons p b i) (g .ends ∙ ap (λ (a : State). after a (packets b)) (t .state));
-        base = g .base;
-        boundary = g .boundary;
-        unfinished = rw (rest-cons p b i) (g .unfinished);
-        ready = g .ready;
-      })
-
-  follows-once : (b : List ℕ) → Claim b
-  follows-once = packet-induction Claim follows-none follows-more
-
--- Responses and settings follow document 01.
-follows-played : (c : Controller) (b : List ℕ) (s : Sending b) → Boundary c → Follows c b (sentTo c s)
-follows-played c b s q =
-    subst (Follows c b) (sym (at-once (s .outs 0) (s .room 0) c b s (q .ready))) (follows-once (s .outs 0) (s .room 0) b c q)
 
 -- One whole packet alone.
 
@@ -230,10 +102,10 @@ left-idle {c} {b} {r} f e g =
     }
 
 -- one whole packet sent to such a head, and judged so that no transfer is opened
-pub record Once (c : Controller) (p : List ℕ) (j : Judgement) (r : Served Controller (List ℕ)) : Type 0 where
-  pub given : r .given ≡ response (c .registers .settings) (arrived p) j ∷ []
-  pub settings : r .state .registers .settings ≡ settingsAfter (c .registers .settings) j
-  pub idle : Idle (r .state)
+record Once (c : Controller) (p : List ℕ) (j : Judgement) (r : Served Controller (List ℕ)) : Type 0 where
+  given : r .given ≡ response (c .registers .settings) (arrived p) j ∷ []
+  settings : r .state .registers .settings ≡ settingsAfter (c .registers .settings) j
+  idle : Idle (r .state)
 
 once : (c : Controller) (p : List ℕ) (s : Sending p) (j : Judgement) → Idle c → IsPacket p → judged (from (c .registers .settings)) p ≡ j
     → transferAfter Closed (arrived p) j ≡ Closed → Once c p j (sentTo c s)
@@ -255,6 +127,7 @@ once c p s j i k e t =
 
 -- Our own encoder's packet.
 
+-- as the laws of the table have it
 law-fit : (ws vs : List ℕ) → Fit ws vs → LawFit ws vs
 law-fit [] [] f = tt
 law-fit [] (v ∷ vs) f = absurd f

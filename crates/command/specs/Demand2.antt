@@ -86,8 +86,9 @@ pub record Idle (c : Controller) : Type 0 where
   pub boundary : Boundary c
   pub closed : c .registers .transfer .active ≡ 0
 
--- "Responses and settings follow .. document 01": the bytes b were sent to the head c at a packet boundary, and these are the responses and the controller. They are those of
--- playing the bytes: the responses in order, the settings and the open transfer, and the unfinished packet, which the receiver has from its first byte on.
+-- "Responses and settings follow .. document 01": the bytes b were sent to the head c at a packet boundary, and r is what it answered and the controller afterwards.
+-- They are those of playing the bytes: the responses in order, the settings and the open transfer, and the unfinished packet, of which the receiver has all bytes
+-- that came in. The head stays in rule.
 pub record Follows (c : Controller) (b : List ℕ) (r : Served Controller (List ℕ)) : Type 0 where
   pub given : r .given ≡ responses (stateOf c) (packets b)
   pub ends : stateOf (r .state) ≡ after (stateOf c) (packets b)
@@ -168,8 +169,8 @@ pub record Demand2 : Type 0 where
   pub blocks : (v : Value) (out : List ℕ) → Legal v → 64 ≤ length out → (c : Controller) (s : Sending (packetBy v out)) → Idle c
       → blocked (commandIn v) (valuesIn v) (c .registers .settings .mode) ≡ true → Blocked c (packetBy v out) (sentTo c s)
   -- a read that follows it answers the data written
-  pub reads : (v : Value) (out : List ℕ) → Legal v → 64 ≤ length out → (c : Controller) (s : Sending (packetBy v out ++ readPacket (commandIn v))) → Idle c
-      → blocked (commandIn v) (valuesIn v) (c .registers .settings .mode) ≡ false → readable (commandIn v) ≡ true
+  pub reads : (v : Value) (out : List ℕ) → Legal v → 64 ≤ length out → (c : Controller) (s : Sending (packetBy v out ++ readPacket (commandIn v)))
+      → Idle c → blocked (commandIn v) (valuesIn v) (c .registers .settings .mode) ≡ false → readable (commandIn v) ≡ true
       → sentTo c s .given ≡ acknowledgement (commandIn v) ∷ readAnswer (commandIn v) (dataIn v) ∷ []
   -- "every write accepted in one packet encodes to the bytes it arrived as": one packet of flags 00 drew a write response
   pub remade : (c : Controller) (p r : List ℕ) (s : Sending p) → Boundary c → Bytes p → packets p ≡ p ∷ [] → flagsOf p ≡ whole

@@ -1,19 +1,22 @@
--- One call at a packet boundary: it does what document 01 says of the packet that stands there.
-use Prim.Native.Nat.{ℕ, _+_, _≤_}
+-- The receive call at a packet boundary: it does what document 01 says of the packet that stands there, and so do the calls on a stream.
+use Prim.Native.Nat.{ℕ, suc, _+_, _≤_}
 use mathlib.Core.Path.{_≡_, refl, ap, ap₂, sym, subst, _∙_}
 use mathlib.Core.Bool.{false}
-use mathlib.Core.List.{List, _++_}
+use mathlib.Core.List.{List, _∷_, _++_}
+use mathlib.Core.Option.{some}
 use native.Mathlib.Nat.{zero-add}
 use native.Mathlib.Omega.{arith}
 use lib.ListN.{length, take, drop, length-append, length-drop}
-use lib.Seq.{sets, sets-eq, getD-take, take-at, length-take-le}
+use lib.Seq.{sets, sets-eq, getD-take, take-at, length-take-le, drop-at}
 use Rattle.packet.specs.Answer.{Answers}
+use Rattle.packet.specs.Calls.{Call, Served, andThen, callsOn, servedOne}
 use Rattle.packet.specs.Packet.{payloadLength, payload, rightSum}
-use Rattle.packet.specs.Receiver.{Received, waiting as receiverWaiting}
-use Rattle.packet.specs.Stream.{size, hasPacket}
+use Rattle.packet.specs.Receiver.{Received, with, waiting as receiverWaiting}
+use Rattle.packet.specs.Stream.{size, hasPacket, packets}
 use Rattle.packet.specs.Writer.{written}
 use Rattle.packet.proofs.Cases.{bool-cases}
-use Rattle.packet.proofs.StreamLaws.{IsPacket}
+use Rattle.packet.proofs.Calls.{same-calls}
+use Rattle.packet.proofs.StreamLaws.{IsPacket, packets-cons, rest-cons, packets-none, rest-none, packet-induction}
 use Rattle.packet.proofs.ReceiverLaws.{Between, between-packet, one, first-of, too-few}
 use Rattle.command.specs.Table.{commandOf}
 use Rattle.command.specs.Transfer.{Transfer, Opened, held}
@@ -21,10 +24,10 @@ use Rattle.command.specs.Faults.{Arrived, arrived, faults, anyFault}
 use Rattle.command.specs.Judgement.{judgeAs, judge}
 use Rattle.command.specs.Carry.{settingsAfter, transferAfter}
 use Rattle.command.specs.Response.{response}
-use Rattle.command.specs.Player.{judged, next}
+use Rattle.command.specs.Player.{State, judged, next, responses, after}
 use Rattle.command.specs.Controller.{heldIn, stateOf, receiverIn}
 use Rattle.command.specs.Endpoint.{arrivedIn, judgedIn, responseIn, carriedOut, After, waiting, receiveCall}
-use Rattle.command.specs.Demand2.{Ready}
+use Rattle.command.specs.Demand2.{Ready, Sending, sentTo, Boundary, Follows}
 use Rattle.command.specs.declared.table.Found.{Found}
 use Rattle.command.specs.declared.table.Found.the-variants.{Known, Unknown}
 use Rattle.command.specs.declared.judgement.Judgement.{Judgement}
@@ -33,7 +36,7 @@ use Rattle.command.specs.declared.controller.Controller.{Controller}
 use Rattle.command.proofs.table.Laws.{found}
 use Rattle.command.proofs.transfer.Laws.{fits-hold, held-is, held-length}
 use Rattle.command.proofs.controller.Laws.{rule-parts}
-use Rattle.command.proofs.endpoint.Laws.{stays-in-rule, Bounded, bounded, call-is}
+use Rattle.command.proofs.endpoint.Laws.{servesWith, call-is, Bounded, bounded, stays-in-rule, endpoint-streams, at-once}
 
 -- a packet with another payload
 abbrev withBody : Arrived → List ℕ → Arrived
@@ -148,3 +151,61 @@ module _ (out : List ℕ) (l : 64 ≤ length out) (c : Controller) (k : Ready c)
   pub takes-part : (b : List ℕ) → hasPacket b ≡ false → receiveCall c b out ≡ waiting c (receiverWaiting 0 (receiverIn c) b) out
   unfolding receiverWaiting
   takes-part b h = call-is c b out k l (too-few 0 (receiverIn c) q b h)
+
+between-of : {c : Controller} → Boundary c → Between (receiverIn c)
+between-of q = record { header = q .ready .header; received = q .received }
+
+-- The stream at once, packet by packet.
+module _ (out : List ℕ) (l : 64 ≤ length out) where
+  -- the claim for one stream
+  abbrev Claim : List ℕ → Type 0
+  Claim b = (c : Controller) → Boundary c → Follows c b (servedOne (servesWith out) c b)
+
+  follows-none : (b : List ℕ) → hasPacket b ≡ false → Claim b
+  unfolding servedOne callsOn responses after receiverWaiting
+  follows-none b h c q =
+      let e = takes-part out l c (q .ready) (between-of q) b h in
+      rw e
+      (record {
+        given = sym (ap (responses (stateOf c)) (packets-none b h));
+        ends = sym (ap (after (stateOf c)) (packets-none b h));
+        base = receiverIn c;
+        boundary = q .received;
+        unfinished = ap (with 0 (receiverIn c)) (sym (rest-none b h));
+        ready = subst (λ (r : After). Ready (r .controller)) e (stays-in-rule c b out (q .ready) l);
+      })
+
+  -- one packet more
+  follows-more : (p b : List ℕ) → IsPacket p → Claim b → Claim (p ++ b)
+  unfolding servedOne callsOn responses after written
+  follows-more p b i ih c q =
+      let t = takes-packet out l c (q .ready) (between-of q) p b i in
+      let d : Controller = receiveCall c (p ++ b) out .controller in
+      let m : List ℕ = drawn c p in
+      let n : length (p ++ b) ≡ length p + length b = length-append p b in
+      let e : servesWith out c (p ++ b) ≡ record { taken = length p; gives = some m; state = d } =
+      rw (t .answer, t .output, take-at m (drop (length m) out) (length m) refl) in
+      let more : callsOn (servesWith out) (length (p ++ b)) d (drop (length p) (p ++ b)) ≡ servedOne (servesWith out) d b =
+      ap (callsOn (servesWith out) (length (p ++ b)) d) (drop-at p b (length p) refl)
+      ∙ same-calls (servesWith out) Ready (endpoint-streams out l) (length (p ++ b)) (suc (length b)) d b (t .ready) (omega (arith, i .least)) (omega arith) in
+      let f : servedOne (servesWith out) c (p ++ b) ≡ record { given = m ∷ servedOne (servesWith out) d b .given; state = servedOne (servesWith out) d b .state } =
+      ap (λ (x : Call Controller (List ℕ)). andThen (x .gives) (x .state) (callsOn (servesWith out) (length (p ++ b)) (x .state) (drop (x .taken) (p ++ b)))) e
+      ∙ ap (λ (x : Served Controller (List ℕ)). andThen (some m) d x) more in
+      let g = ih d (record { ready = t .ready; received = t .boundary .received }) in
+      subst (Follows c (p ++ b)) (sym f)
+      (record {
+        given = rw (packets-cons p b i) (ap {B = List (List ℕ)} (λ xs. m ∷ xs) (g .given ∙ ap (λ (a : State). responses a (packets b)) (t .state)));
+        ends = rw (packets-cons p b i) (g .ends ∙ ap (λ (a : State). after a (packets b)) (t .state));
+        base = g .base;
+        boundary = g .boundary;
+        unfinished = rw (rest-cons p b i) (g .unfinished);
+        ready = g .ready;
+      })
+
+  follows-once : (b : List ℕ) → Claim b
+  follows-once = packet-induction Claim follows-none follows-more
+
+-- Responses and settings follow document 01.
+pub follows-played : (c : Controller) (b : List ℕ) (s : Sending b) → Boundary c → Follows c b (sentTo c s)
+follows-played c b s q =
+    subst (Follows c b) (sym (at-once (s .outs 0) (s .room 0) c b s (q .ready))) (follows-once (s .outs 0) (s .room 0) b c q)
