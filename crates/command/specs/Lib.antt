@@ -14,5 +14,6 @@ pub mod Player
 pub mod Controller
 pub mod Endpoint
 pub mod Encoder
+pub mod Demand1
 pub mod Inner
 pub mod Computing
