@@ -1,4 +1,5 @@
 -- Demands 1 and 2 of the endpoint, and the laws that crates above cite.
+pub mod Refusals
 pub mod Demand1
 pub mod Demand2
 pub use Rattle.command.proofs.table.Laws as TableLaws

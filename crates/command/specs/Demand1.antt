@@ -1,13 +1,13 @@
 -- Demand 1: "Every call answers on every input and controller handed to it, damaged ones included. A bad packet gets the error packet its faults call for and
 -- leaves all settings as they stood; a bad call gets its refusal number and touches nothing lent."
--- What a packet's faults are is said here once more, line by line as document 01 lists them, by equations and orders: no test of the rules is cited.
+-- The faults of a packet are said here once more, line by line as document 01 lists them, by equations and orders: of the rules only the table's columns are cited.
 use Prim.Native.Nat.{ℕ, _+_, _<_, _≤_}
 use mathlib.Core.Path.{_≡_}
 use mathlib.Core.Logic.{_↔_, _⊎_}
-use mathlib.Core.Bool.{false}
+use mathlib.Core.Bool.{false, cond}
 use mathlib.Core.List.{List, [], _∷_, _++_, List·Memᴰ}
 use lib.ListN.{length, take, getD}
-use Rattle.packet.specs.Answer.{Refuses, Answers}
+use Rattle.packet.specs.Answer.{Refuses, Waits, Answers}
 use Rattle.packet.specs.Packet.{typeOf, cmd1Of, cmd2Of, payloadLength, checksum, packetOf, error, hostWrite, hostRead, writeResponse, readResponse, whole, beginning, intermediate, last}
 use Rattle.packet.specs.Writer.{written}
 use Rattle.command.specs.Table.{cmd1For, cmd2For, layout, sizeOf}
@@ -20,8 +20,8 @@ use Rattle.command.specs.Faults.{Arrived, arrived}
 use Rattle.command.specs.Response.{response}
 use Rattle.command.specs.Player.{State, from, judged, next, judgements, after}
 use Rattle.command.specs.Controller.{stateOf}
-use Rattle.command.specs.Endpoint.{takenBy, arrivedIn, receiveCall}
-use Rattle.command.specs.Encoder.{encodeCall, listCall}
+use Rattle.command.specs.Endpoint.{takenBy, arrivedIn, responseIn, receiveCall}
+use Rattle.command.specs.Encoder.{encoded, standardList, encodeCall, listCall}
 use Rattle.command.specs.Encoder as encoder
 use Rattle.command.specs.declared.table.Command.{Command}
 use Rattle.command.specs.declared.table.Command.the-variants.{SequenceRun}
@@ -62,7 +62,7 @@ pub data FirstFault (t : Transfer) (p : Arrived) : ℕ → Type 0 where
   -- or flags 02 or 03 with a transfer open and held bytes plus this payload over 1,024
   LongTransfer : (c : Command) (d : List ℕ) → Continues (p .flags) → t ≡ Opened c d → 1024 < length d + p .size → FirstFault t p 0x04
   -- 0B: flags over 03;
-  UnknownFlags : 0x03 < p .flags → FirstFault t p 0x0B
+  UnknownFlags : last < p .flags → FirstFault t p 0x0B
   -- a type other than 02 with nonzero flags;
   NoWriteInParts : (p .type ≡ hostWrite → ⊥) → (p .flags ≡ whole → ⊥) → FirstFault t p 0x0B
   -- flags 02 or 03 with no transfer open
@@ -160,19 +160,24 @@ pub data OutOfRule (c : Controller) : Type 0 where
   -- or a half-received packet that already has all its bytes
   HasAllBytes : 7 + payloadLength (c .registers .header) ≤ c .registers .received → OutOfRule c
 
--- A call's refusals: 1 exactly when the output is too short, a second number exactly when this holds and the output is not, no other;
--- and then nothing lent is touched. `Refused n` says that the call answers refusal n.
-pub record Refusals (Refused : ℕ → Type 0) (out : List ℕ) (shortest second : ℕ) (Holds : Type 0) (Untouched : Type 0) : Type 0 where
+-- How a call answers, `Refused n` being that it answers refusal n. Tested in the order of the table:
+pub record Answering (Refused : ℕ → Type 0) (out : List ℕ) (shortest second : ℕ) (Holds Untouched Answered : Type 0) : Type 0 where
+  -- 1 exactly when the output is shorter than this
   pub short : Refused 1 ↔ (length out < shortest)
+  -- the second number exactly when it is not and this holds
   pub other : Refused second ↔ ((shortest ≤ length out) × Holds)
+  -- no other number
   pub only : (n : ℕ) → Refused n → (n ≡ 1) ⊎ (n ≡ second)
+  -- a refusal touches nothing lent
   pub untouched : (n : ℕ) → Refused n → Untouched
+  -- and where nothing is refused the call is answered
+  pub answers : shortest ≤ length out → (Holds → ⊥) → Answered
 
 pub record Demand1 : Type 0 where
   -- "A bad packet gets the error packet its faults call for": that one and no other, and no packet besides gets one
-  pub packet : (a : State) (q codes : List ℕ) → (response (a .settings) (arrived q) (judged a q) ≡ errorPacket (arrived q) codes) ↔ DrawsOn a (arrived q) codes
+  pub called : (a : State) (q codes : List ℕ) → (response (a .settings) (arrived q) (judged a q) ≡ errorPacket (arrived q) codes) ↔ DrawsOn a (arrived q) codes
   -- the checksum of its bytes is wrong where the last is not the sum of every earlier one
-  pub wrong : (q : List ℕ) → (arrived q .right ≡ false) ↔ (getD q (6 + payloadLength q) 0 ≡ checksum (take (6 + payloadLength q) q) → ⊥)
+  pub wrongSum : (q : List ℕ) → (arrived q .right ≡ false) ↔ (getD q (6 + payloadLength q) 0 ≡ checksum (take (6 + payloadLength q) q) → ⊥)
   -- a packet with no fault is answered by a write or a read response
   pub good : (a : State) (q : List ℕ) → ((codes : List ℕ) → DrawsOn a (arrived q) codes → ⊥)
       → let r = response (a .settings) (arrived q) (judged a q) in (typeOf r ≡ writeResponse) ⊎ (typeOf r ≡ readResponse)
@@ -189,16 +194,19 @@ pub record Demand1 : Type 0 where
   -- over whole streams the settings are the accepted writes alone, stored one after the other,
   pub stream : (a : State) (qs : List (List ℕ)) → after a qs .settings ≡ storeAll (acceptedWrites (judgements a qs)) (a .settings)
   -- and packets that are all bad leave all settings as they stood
-  pub bad : (a : State) (qs : List (List ℕ)) → AllBad a qs → after a qs .settings ≡ a .settings
-  -- "a bad call gets its refusal number and touches nothing lent": the receive call, 1 and 3;
+  pub badStream : (a : State) (qs : List (List ℕ)) → AllBad a qs → after a qs .settings ≡ a .settings
+  -- "Every call answers"; "a bad call gets its refusal number and touches nothing lent". The receive call: 1 and 3; else "waiting", all bytes taken, or "answered"
   pub receive : (c : Controller) (input out : List ℕ)
       → let r = receiveCall c input out in
-      Refusals (λ n. r .answer ≡ Refuses n) out 64 3 (OutOfRule c) ((r .controller ≡ c) × (r .output ≡ out))
-  -- the encoder, 1 and 2;
+      let t = takenBy c input in
+      Answering (λ n. r .answer ≡ Refuses n) out 64 3 (OutOfRule c) ((r .controller ≡ c) × (r .output ≡ out))
+      (r .answer ≡ cond (t .complete) (Answers (t .taken) (length (responseIn c t))) (Waits (length input)))
+  -- the encoder: 1 and 2; else the length of one whole packet
   pub encode : (v : Value) (out : List ℕ)
       → let r = encodeCall v out in
-      Refusals (λ n. r .answer ≡ encoder.Refuses n) out 64 2 (allowed (commandIn v) (valuesIn v) ≡ false) (r .output ≡ out)
-  -- the standard list, 1 and 3
+      Answering (λ n. r .answer ≡ encoder.Refuses n) out 64 2 (allowed (commandIn v) (valuesIn v) ≡ false) (r .output ≡ out)
+      (r .answer ≡ encoder.Writes (length (encoded v)))
+  -- the standard list: 1 and 3; else its length
   pub list : (s : Settings) (out : List ℕ)
       → let r = listCall s out in
-      Refusals (λ n. r .answer ≡ encoder.Refuses n) out 128 3 (SettingsOutOfRule s) (r .output ≡ out)
+      Answering (λ n. r .answer ≡ encoder.Refuses n) out 128 3 (SettingsOutOfRule s) (r .output ≡ out) (r .answer ≡ encoder.Writes (length (standardList s)))
