@@ -21,7 +21,7 @@ use Rattle.packet.proofs.WriterLaws.{packet-written}
 use Rattle.command.specs.Table.{cmd1For, cmd2For, same, layout, sizeOf, readable}
 use Rattle.command.specs.Settings.{factory, valuesAfter, store}
 use Rattle.command.specs.Rules.{allowed, blocked}
-use Rattle.command.specs.Data.{joinAll}
+use Rattle.command.specs.Data.{joinAll, Fit}
 use Rattle.command.specs.Value.{commandIn, valuesIn, dataIn, dataOf}
 use Rattle.command.specs.Transfer.{Transfer, Closed}
 use Rattle.command.specs.Faults.{Arrived, arrived, wrongCommand, modeFault, listIf, codesOf}
@@ -31,7 +31,8 @@ use Rattle.command.specs.Response.{responseType, response}
 use Rattle.command.specs.Player.{State, from, judged, next, responses, after}
 use Rattle.command.specs.Controller.{transferIn, stateOf, transferInRule, zeros, fresh}
 use Rattle.command.specs.Encoder.{After as Encoding, writePacket, encoded, writes, encodeCall}
-use Rattle.command.specs.Demand2.{Sending, sentTo, Ready, Boundary, Idle, Follows, Fit, Legal, atStart, packetBy, acknowledgement, notInMode, readPacket, readAnswer, ReadBack, Blocked, Remade, Demand2}
+use Rattle.command.specs.Sending.{Sending, sentTo, Ready, Boundary, Idle}
+use Rattle.command.specs.Demand2.{Follows, Legal, atStart, packetBy, acknowledgement, notInMode, readPacket, readAnswer, ReadBack, Blocked, Remade, Demand2}
 use Rattle.command.specs.declared.table.Command.{Command}
 use Rattle.command.specs.declared.table.Command.the-variants.{SequenceRun}
 use Rattle.command.specs.declared.settings.Settings.{Settings}
@@ -40,7 +41,7 @@ use Rattle.command.specs.declared.transfer.TransferState.{TransferState}
 use Rattle.command.specs.declared.judgement.Judgement.{Judgement}
 use Rattle.command.specs.declared.judgement.Judgement.the-variants.{Error, Hold, Write, Read}
 use Rattle.command.specs.declared.controller.Controller.{Controller}
-use Rattle.command.proofs.table.Laws.{each, same-eq, fit-length, size-small, Fit as LawFit}
+use Rattle.command.proofs.table.Laws.{each, same-eq, fit-length, size-small}
 use Rattle.command.proofs.rules.Laws.{values-store, Writable, kept-factory, in-rule-of}
 use Rattle.command.proofs.data.Laws.{length-join}
 use Rattle.command.proofs.transfer.Laws.{by-transfer}
@@ -127,21 +128,11 @@ once c p s j i k e t =
 
 -- Our own encoder's packet.
 
--- as the laws of the table have it
-law-fit : (ws vs : List ℕ) → Fit ws vs → LawFit ws vs
-law-fit [] [] f = tt
-law-fit [] (v ∷ vs) f = absurd f
-law-fit (w ∷ ws) [] f = absurd f
-law-fit (w ∷ ws) (v ∷ vs) f = (f .0, law-fit ws vs (f .1))
-
 encodes : (v : Value) (out : List ℕ) → allowed (commandIn v) (valuesIn v) ≡ true → 64 ≤ length out → encodeCall v out ≡ writes (encoded v) out
 unfolding encodeCall
 encodes v out a l = rw (le-ltb (length out) 64 l, a)
 
 module _ (v : Value) (g : Legal v) where
-  fit : LawFit (layout (commandIn v)) (valuesIn v)
-  fit = law-fit (layout (commandIn v)) (valuesIn v) (g .fit)
-
   packet-is : (out : List ℕ) → 64 ≤ length out → packetBy v out ≡ encoded v
   unfolding written
   packet-is out l =
@@ -150,16 +141,16 @@ module _ (v : Value) (g : Legal v) where
 
   -- judged, with no transfer open
   judged-as : (s : Settings) → judged (from s) (encoded v) ≡ cond (blocked (commandIn v) (valuesIn v) (s .mode)) (Error modeFault) (Write v)
-  judged-as s = encoder-judged v s fit (g .values) .1
+  judged-as s = encoder-judged v s (g .fit) (g .values) .1
 
   one-packet : IsPacket (encoded v)
   unfolding encoded dataIn
-  one-packet = write-packet (commandIn v) (valuesIn v) fit (g .values)
+  one-packet = write-packet (commandIn v) (valuesIn v) (g .fit) (g .values)
 
   arrives : arrived (encoded v) ≡ plain hostWrite (commandIn v) (dataIn v)
   unfolding encoded writePacket dataIn sizeOf
   arrives =
-      let n = length-join (layout (commandIn v)) (valuesIn v) (fit-length (layout (commandIn v)) (valuesIn v) fit) in
+      let n = length-join (layout (commandIn v)) (valuesIn v) (fit-length (layout (commandIn v)) (valuesIn v) (g .fit)) in
       arrived-plain hostWrite (commandIn v) (joinAll (layout (commandIn v)) (valuesIn v)) (omega (arith, n, size-small (commandIn v)))
 
 -- the two responses that it can draw, byte by byte
@@ -260,7 +251,7 @@ reads-back v out g l c s i b r =
     (ap (λ (a : State). responses a (q ∷ [])) stored
     ∙ ap {B = List (List ℕ)} (λ m. m ∷ [])
     (read-answers y (commandIn v) r
-    ∙ ap (readAnswer (commandIn v)) (data-store v x (fit-length (layout (commandIn v)) (valuesIn v) (fit v g)))))
+    ∙ ap (readAnswer (commandIn v)) (data-store v x (fit-length (layout (commandIn v)) (valuesIn v) (g .fit)))))
 
 -- Every write accepted in one packet.
 

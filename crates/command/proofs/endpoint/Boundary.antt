@@ -16,7 +16,7 @@ use Rattle.packet.specs.Stream.{size, hasPacket, packets}
 use Rattle.packet.specs.Writer.{written}
 use Rattle.packet.proofs.Cases.{bool-cases}
 use Rattle.packet.proofs.Calls.{same-calls}
-use Rattle.packet.proofs.StreamLaws.{IsPacket, packets-cons, rest-cons, packets-none, rest-none, packet-induction}
+use Rattle.packet.proofs.StreamLaws.{IsPacket, payload-length, packets-cons, rest-cons, packets-none, rest-none, packet-induction}
 use Rattle.packet.proofs.ReceiverLaws.{Between, between-packet, one, first-of, too-few}
 use Rattle.command.specs.Table.{commandOf}
 use Rattle.command.specs.Transfer.{Transfer, Opened, held}
@@ -27,7 +27,8 @@ use Rattle.command.specs.Response.{response}
 use Rattle.command.specs.Player.{State, judged, next, responses, after}
 use Rattle.command.specs.Controller.{heldIn, stateOf, receiverIn}
 use Rattle.command.specs.Endpoint.{arrivedIn, judgedIn, responseIn, carriedOut, After, waiting, receiveCall}
-use Rattle.command.specs.Demand2.{Ready, Sending, sentTo, Boundary, Follows}
+use Rattle.command.specs.Sending.{Ready, Sending, sentTo, Boundary}
+use Rattle.command.specs.Demand2.{Follows}
 use Rattle.command.specs.declared.table.Found.{Found}
 use Rattle.command.specs.declared.table.Found.the-variants.{Known, Unknown}
 use Rattle.command.specs.declared.judgement.Judgement.{Judgement}
@@ -35,8 +36,9 @@ use Rattle.command.specs.declared.judgement.Judgement.the-variants.{Erro
 use Rattle.command.specs.declared.controller.Controller.{Controller}
 use Rattle.command.proofs.table.Laws.{found}
 use Rattle.command.proofs.transfer.Laws.{fits-hold, held-is, held-length}
+use Rattle.command.proofs.carry.Laws.{Bounded, bounded, stored-part, carried-transfer}
 use Rattle.command.proofs.controller.Laws.{rule-parts}
-use Rattle.command.proofs.endpoint.Laws.{servesWith, call-is, Bounded, bounded, stays-in-rule, endpoint-streams, at-once}
+use Rattle.command.proofs.endpoint.Laws.{servesWith, call-is, stays-in-rule, endpoint-streams, at-once}
 
 -- a packet with another payload
 abbrev withBody : Arrived → List ℕ → Arrived
@@ -52,12 +54,6 @@ judge-body mode t p b h = go (commandOf (p .cmd1) (p .cmd2))
     go Unknown = unfold judgeAs faults in refl
     go (Known c) = unfold judgeAs faults in bool-cases (anyFault (faults (Known c) t p)) (λ e. rw e) (λ e. rw (h (fits-hold (Known c) t p e)))
 
--- the list up to the end of what was stored at a place of it
-stored-part : (d xs : List ℕ) (i n : ℕ) → length xs ≡ n → i + n ≤ length d → take (i + n) (sets d i xs) ≡ take i d ++ xs
-stored-part d xs i n l h =
-    let t : length (take i d) ≡ i = length-take-le i d (omega arith) in
-    rw (sets-eq xs d i (omega arith)) (take-at (take i d ++ xs) (drop (i + length xs) d) (i + n) (length-append (take i d) xs ∙ omega arith))
-
 -- One whole packet, from a packet boundary.
 module _ (c : Controller) (k : Ready c) (p : List ℕ) (i : IsPacket p) where
   abbrev complete : Received
@@ -67,12 +63,8 @@ module _ (c : Controller) (k : Ready c) (p : List ℕ) (i : IsPacket p) where
   abbrev body : List ℕ
   body = take (payloadLength p) (sets (c .hold) 0 (payload p))
 
-  long : length (payload p) ≡ payloadLength p
-  unfolding payload size
-  long = length-take-le (payloadLength p) (drop 6 p) (simp length-drop (omega (arith, i .exact)))
-
   whole-body : payloadLength p ≤ 1024 → body ≡ payload p
-  whole-body l = rw (zero-add (payloadLength p)) at (stored-part (c .hold) (payload p) 0 (payloadLength p) long (omega (arith, k .hold)))
+  whole-body l = rw (zero-add (payloadLength p)) at (stored-part (c .hold) (payload p) 0 (payloadLength p) (payload-length p (i .exact)) (omega (arith, k .hold)))
 
   held-same : length (held (stateOf c .transfer)) ≡ heldIn (c .registers .transfer)
   held-same = held-length (c .registers .transfer) (rule-parts (c .registers) (k .rule) .transfer) (c .buffer) (k .buffer)
@@ -105,15 +97,10 @@ module _ (c : Controller) (k : Ready c) (p : List ℕ) (i : IsPacket p) where
     settings = settingsAfter (c .registers .settings) j;
     transfer = transferAfter (stateOf c .transfer) (arrived p) j;
   }
-  carried-state (Error r) b = refl
-  carried-state (Hold d) b =
-      ap (λ (t : Transfer). record { settings = c .registers .settings; transfer = t })
-      (rw (found d, ap (λ (q : Arrived). q .body) seen ∙ whole-body (omega arith))
-      (ap (Opened d)
-      (stored-part (c .buffer) (payload p) (heldIn (c .registers .transfer)) (length (payload p)) refl (omega (arith, k .buffer, long))
-      ∙ ap (λ (x : List ℕ). x ++ payload p) (sym (held-is (c .registers .transfer) (rule-parts (c .registers) (k .rule) .transfer) (c .buffer))))))
-  carried-state (Write v) b = refl
-  carried-state (Read d) b = refl
+  carried-state j b =
+      ap (λ (t : Transfer). record { settings = settingsAfter (c .registers .settings) j; transfer = t })
+      (carried-transfer (c .registers .transfer) (c .buffer) (arrivedIn complete .body) (arrived p) j (rule-parts (c .registers) (k .rule) .transfer) (k .buffer)
+      (payload-length p (i .exact)) (λ l. ap (λ (q : Arrived). q .body) seen ∙ whole-body l) b)
 
   state-same : stateOf (carriedOut c complete (judgedIn c complete)) ≡ next (stateOf c) p
   unfolding next judged

@@ -21,7 +21,7 @@ use Rattle.command.specs.Judgement.{judge}
 use Rattle.command.specs.Carry.{settingsAfter}
 use Rattle.command.specs.Controller.{heldIn, transferIn, receiverIn, transferStateAfter, bufferAfter, transferInRule}
 use Rattle.command.specs.Endpoint.{takenBy, arrivedIn, judgedIn, responseIn, registersOf, carriedOut, After, waiting, answered, receiveCall}
-use Rattle.command.specs.Demand2.{shown, Head, serves, Sending, sentTo, Ready}
+use Rattle.command.specs.Sending.{shown, Head, serves, Sending, sentTo, Ready}
 use Rattle.command.specs.declared.table.Found.the-variants.{Known}
 use Rattle.command.specs.declared.transfer.TransferState.{TransferState}
 use Rattle.command.specs.declared.judgement.Judgement.{Judgement}
@@ -31,6 +31,7 @@ use Rattle.command.proofs.table.Laws.{found}
 use Rattle.command.proofs.rules.Laws.{kept-by, in-rule-of}
 use Rattle.command.proofs.transfer.Laws.{fits-hold, held-length}
 use Rattle.command.proofs.judgement.Laws.{judge-cases, sound}
+use Rattle.command.proofs.carry.Laws.{Bounded, bounded, transfer-kept, buffer-kept}
 use Rattle.command.proofs.controller.Laws.{rule-parts, rule-whole}
 use Rattle.command.proofs.player.Laws.{kept-judgement}
 
@@ -59,41 +60,6 @@ module _ (c : Controller) (b out : List ℕ) (k : Ready c) (l : 64 ≤ length ou
   call-answers : missing (receiverIn c) b ≤ length b → receiveCall c b out ≡ answered c (completed 0 (receiverIn c) b (missing (receiverIn c) b)) out
   unfolding completed
   call-answers h = call-is (completes 0 (receiverIn c) b h)
-
--- A transfer that is added to keeps within the buffer.
-
-abbrev pub Bounded : ℕ → Judgement → Type 0
-Bounded n (Error k) = Unit {0}
-Bounded n (Hold c) = n ≤ 1024
-Bounded n (Write v) = Unit {0}
-Bounded n (Read c) = Unit {0}
-
-pub bounded : (mode : ℕ) (t : Transfer) (p : Arrived) → Bounded (length (held t) + p .size) (judge mode t p)
-bounded mode t p =
-    judge-cases (Bounded (length (held t) + p .size)) mode t p (λ _. tt)
-    (λ c k e. record {
-      hold = λ _. fits-hold (Known c) t p e;
-      read = λ _ _ _. tt;
-      asked = λ _ _ _. tt;
-      size = λ _ _ _. tt;
-      value = λ _ _ _ _. tt;
-      blocks = λ _ _ _ _ _. tt;
-      write = λ _ _ _ _. tt;
-    })
-
-transfer-kept : (t : TransferState) (body : List ℕ) (n : ℕ) (j : Judgement) → length body ≤ n → transferInRule t ≡ true → Bounded (heldIn t + n) j
-    → transferInRule (transferStateAfter t body j) ≡ true
-unfolding transferInRule
-transfer-kept t body n (Error k) l r b = refl
-transfer-kept t body n (Hold c) l r b = rw (le-leb (heldIn t + length body) 1024 (omega arith), found c)
-transfer-kept t body n (Write v) l r b = refl
-transfer-kept t body n (Read c) l r b = r
-
-buffer-kept : (t : TransferState) (buffer body : List ℕ) (j : Judgement) → length (bufferAfter t buffer body j) ≡ length buffer
-buffer-kept t buffer body (Error k) = refl
-buffer-kept t buffer body (Hold c) = length-sets buffer (heldIn t) body
-buffer-kept t buffer body (Write v) = refl
-buffer-kept t buffer body (Read c) = refl
 
 -- a judgement that is carried out keeps the head in rule
 ready-carried : (c : Controller) (t : Received) → Ready c → length (t .receiver .header) ≡ 6 → length (t .receiver .hold) ≡ 1024 → t .receiver .received ≡ 0
