@@ -15,6 +15,7 @@ mod same;
 mod trials;
 mod verdict;
 
+pub use head::LONGEST;
 pub use line::LINE;
 pub use line::write_line;
 pub use record::Outcome;

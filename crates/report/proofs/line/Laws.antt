@@ -105,3 +105,8 @@ module _ (first second : List ℕ) (m n : ℕ) where
         p .0 ∙ rw sentence-joined (omega arith),
         p .1 ∙ sets-front all out (omega arith) ∙ rw sentence-joined,
       )
+
+-- what was written at the start of a buffer is as long as the buffer at most
+pub written-within : (b out : List ℕ) {n : ℕ} {last : List ℕ} → (n ≡ length b) × (last ≡ written b out) → n ≤ length last
+unfolding written
+written-within b out h = omega (arith, h .0, ap length (h .1), length-append b (drop (length b) out))
