@@ -79,10 +79,12 @@ pub fn write_line(out: &mut [u8; LINE], c: Checked) -> usize
     ensures { λ n. ⌜ (n ≡ length (lineOf (verdictIn (c .trial) (c .score) (c .settings)))) × (now (out .exit) ≡ written (lineOf (verdictIn (c .trial) (c .score) (c .settings))) (now (out .entry))) ⌝ }
 {
     let trial = c.trial;
+    let score = c.score;
     match trial {
-        Outcome::Value(k) => put_sentence(out, b"accepted trial ", k, b" score ", c.score),
+        Outcome::Value(k) => put_sentence(out, b"accepted trial ", k, b" score ", score),
         Outcome::Refused { number, place } => {
-            put_sentence(out, b"refused ", number as usize, b" at ", place)
+            let why = number as usize;
+            put_sentence(out, b"refused ", why, b" at ", place)
         }
     }
 }
