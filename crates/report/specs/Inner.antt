@@ -1,5 +1,6 @@
 -- For the code alone: what its functions have read, by the readings of specs/Report.antt. The laws that make the verdict of them, in proofs/verdict/Laws:
--- HeadAt `head-no`; BestAt, with First, `trials-no`; WinnerAt, with namedAt, `winner-no`, `verdict-read`. RecordAt is the reading of specs/Record.antt.
+-- HeadAt `head-no`; BestAt, with First, `trials-no`; WinnerAt, with namedAt, `winner-no`, `verdict-read`. RecordAt is the reading of specs/Record.antt,
+-- DigitsOf the decimal of specs/Line.antt.
 use Prim.Native.Nat.{ℕ, _+_, _<_, _≤_}
 use mathlib.Core.Path.{_≡_}
 use mathlib.Core.Bool.{true}

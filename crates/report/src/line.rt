@@ -75,11 +75,11 @@ fn put_sentence(out: &mut [u8], first: &[u8], m: usize, second: &[u8], n: usize)
 }
 
 // Writes the line of an answer to the start of out, and says how long it is. The rest of out stays.
-pub fn write_line(out: &mut [u8; LINE], c: Checked) -> usize
-    ensures { λ n. ⌜ (n ≡ length (lineOf (verdictIn (c .trial) (c .score) (c .settings)))) × (now (out .exit) ≡ written (lineOf (verdictIn (c .trial) (c .score) (c .settings))) (now (out .entry))) ⌝ }
+pub fn write_line(out: &mut [u8; LINE], answer: Checked) -> usize
+    ensures { λ n. ⌜ (n ≡ length (lineOf (verdictIn (answer .trial) (answer .score) (answer .settings)))) × (now (out .exit) ≡ written (lineOf (verdictIn (answer .trial) (answer .score) (answer .settings))) (now (out .entry))) ⌝ }
 {
-    let trial = c.trial;
-    let score = c.score;
+    let trial = answer.trial;
+    let score = answer.score;
     match trial {
         Outcome::Value(k) => put_sentence(out, b"accepted trial ", k, b" score ", score),
         Outcome::Refused { number, place } => {
