@@ -5,8 +5,8 @@ use mathlib.Core.List.{List}
 use lib.Dec.{ltb}
 use lib.ListN.{length}
 use Rattle.packet.specs.Writer.{written}
-use Rattle.dlpc200.specs.Receiver.{receiving}
-use Rattle.dlpc200.specs.declared.receiver.Received.{Received}
+use Rattle.packet.specs.Receiver.{Received}
+use Rattle.dlpc200.specs.Receiver.{receiverOf, receiving}
 use Rattle.dlpc200.specs.Judgement.{Arrived, arrivedBy, judge, statesAfter}
 use Rattle.dlpc200.specs.Response.{response}
 use Rattle.dlpc200.specs.declared.judgement.Judgement.{Judgement}
@@ -30,7 +30,7 @@ outcomeOf (Answered n m) = Answers n m
 
 -- the complete packet, how it is judged, and the response to it
 abbrev pub arrivedIn : Received → Arrived
-arrivedIn t = arrivedBy (t .receiver .header) (t .receiver .id) (t .right)
+arrivedIn t = arrivedBy (t .receiver .header) (t .receiver .hold) (t .right)
 
 unfoldable pub judgedIn : Received → Judgement
 judgedIn t = judge (arrivedIn t)
@@ -50,14 +50,14 @@ refused n d out = record { answer = Refuses n; device = d; output = out }
 
 -- "waiting": all bytes taken, output untouched
 abbrev pub waiting : States → Received → List ℕ → After
-waiting s t out = record { answer = Waits (t .taken); device = record { states = s; receiver = t .receiver }; output = out }
+waiting s t out = record { answer = Waits (t .taken); device = record { states = s; receiver = receiverOf (t .receiver) }; output = out }
 
 -- "answered": the response at the output's start, the rest untouched
 abbrev pub answered : States → Received → List ℕ → After
 answered s t out =
     record {
       answer = Answers (t .taken) (length (responseIn s t));
-      device = record { states = statesAfter s (judgedIn t); receiver = t .receiver };
+      device = record { states = statesAfter s (judgedIn t); receiver = receiverOf (t .receiver) };
       output = written (responseIn s t) out;
     }
 

@@ -11,3 +11,4 @@ pub mod Device
 pub mod Endpoint
 pub mod Exports
 pub mod Examples
+pub mod Inner

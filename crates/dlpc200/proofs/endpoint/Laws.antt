@@ -6,18 +6,17 @@ use mathlib.Core.List.{List, [], _∷_, _++_}
 use mathlib.Core.Option.{Option, none, some}
 use native.Mathlib.Omega.{arith}
 use lib.Dec.{ltb}
-use borrow.Author.Tests.{lt-ltb, le-ltb, ltb-true, ltb-false}
+use borrow.Author.Tests.{lt-ltb, le-ltb, ltb-true}
 use lib.ListN.{length, take}
-use lib.Seq.{sets}
+use lib.Seq.{sets, length-sets}
 use Rattle.packet.specs.Packet.{payloadLength}
-use Rattle.packet.specs.Receiver.{with as packetWith, missing, completed}
+use Rattle.packet.specs.Receiver.{Receiver as PacketReceiver, Received, with, missing, waiting as packetWaiting, completed, packetInRule}
 use Rattle.packet.specs.Calls.{Call, servedOne, served, joined}
-use Rattle.packet.proofs.Cases.{bool-cases, and-left, and-right, and-both}
-use Rattle.packet.proofs.ReceiverLaws.{missing-least}
+use Rattle.packet.proofs.Cases.{lt-cases, and-left, and-right, and-both}
+use Rattle.packet.proofs.ReceiverLaws.{with-nil, hold-length, missing-least, after, cut, behind, waits, completes}
 use Rattle.packet.proofs.Calls.{Streaming, shifted, in-pieces}
-use Rattle.dlpc200.specs.Receiver.{framedBy, with, taking, receiving, packetInRule}
-use Rattle.dlpc200.specs.declared.receiver.Received.{Received}
-use Rattle.dlpc200.proofs.receiver.Laws.{Made, made-with, made-completed, received-none, after, cut, behind, waits, completes, no-bytes}
+use Rattle.dlpc200.specs.Packet.{afterCmd4}
+use Rattle.dlpc200.specs.Receiver.{framedBy, receiverOf, receiving}
 use Rattle.dlpc200.specs.States.{inRange}
 use Rattle.dlpc200.specs.declared.states.States.{States}
 use Rattle.dlpc200.proofs.judgement.Laws.{in-range-kept}
@@ -53,23 +52,38 @@ shown r = record { taken = takenOf (r .answer); gives = givenBy (r .answer) (r .
 abbrev pub serves : List ℕ → Device → List ℕ → Call Device (List ℕ)
 serves out d b = shown (receiveCall d b out)
 
+-- a receiver as the code has it: its header has six bytes, and its ID two
+pub record Made (q : PacketReceiver) : Type 0 where
+  pub header : length (q .header) ≡ 6
+  pub id : length (q .hold) ≡ 2
+
+made-with : (q : PacketReceiver) (b : List ℕ) → Made q → Made (with afterCmd4 q b)
+unfolding with
+made-with q b m = record { header = length-sets (q .header) (q .received) b ∙ m .header; id = hold-length afterCmd4 q b ∙ m .id }
+
 -- a device in rule, as the code has it
 pub record Ready (d : Device) : Type 0 where
   pub rule : inRule d ≡ true
-  pub made : Made (d .receiver)
+  pub made : Made (framedBy (d .receiver))
 
+-- the two parts of the rule
 range-of : (d : Device) → inRule d ≡ true → inRange (d .states) ≡ true
 range-of d h = and-left (inRange (d .states)) (packetInRule (d .receiver .header) (d .receiver .received)) h
 
 unfinished : (d : Device) → inRule d ≡ true → d .receiver .received < 7 + payloadLength (d .receiver .header)
 unfinished d h =
     ltb-true (d .receiver .received) (7 + payloadLength (d .receiver .header))
-    (and-right (inRange (d .states)) (ltb (d .receiver .received) (7 + payloadLength (d .receiver .header))) h)
+    (unfold packetInRule in and-right (inRange (d .states)) (packetInRule (d .receiver .header) (d .receiver .received)) h)
 
 pub rule-by : (d : Device) → inRange (d .states) ≡ true → d .receiver .received < 7 + payloadLength (d .receiver .header) → inRule d ≡ true
+unfolding packetInRule
 rule-by d h l =
     and-both (inRange (d .states)) (ltb (d .receiver .received) (7 + payloadLength (d .receiver .header))) h
     (lt-ltb (d .receiver .received) (7 + payloadLength (d .receiver .header)) l)
+
+-- the device with b received of the current packet
+abbrev pub deviceAfter : Device → List ℕ → Device
+deviceAfter d b = record { states = d .states; receiver = receiverOf (with afterCmd4 (framedBy (d .receiver)) b) }
 
 -- The two ends of a call that is not refused.
 module _ (d : Device) (b out : List ℕ) (k : Ready d) (l : 64 ≤ length out) where
@@ -80,16 +94,13 @@ module _ (d : Device) (b out : List ℕ) (k : Ready d) (l : 64 ≤ length out) w
   abbrev wanted : ℕ
   wanted = missing (framedBy (d .receiver)) b
 
-  call-waits : length b < wanted
-      → receiveCall d b out ≡ waiting (d .states) (record { taken = length b; complete = false; right = false; receiver = with (d .receiver) b }) out
-  call-waits h = not-refused ∙ ap (λ (t : Received). ended (d .states) t out) (waits (d .receiver) b h)
+  call-waits : length b < wanted → receiveCall d b out ≡ record { answer = Waits (length b); device = deviceAfter d b; output = out }
+  unfolding packetWaiting
+  call-waits h = not-refused ∙ ap (λ (t : Received). ended (d .states) t out) (waits afterCmd4 (framedBy (d .receiver)) b h)
 
-  call-answers : wanted ≤ length b → receiveCall d b out ≡ answered (d .states) (taking (d .receiver) b (completed (framedBy (d .receiver)) 0 b wanted)) out
-  unfolding taking completed
-  call-answers h = not-refused ∙ ap (λ (t : Received). ended (d .states) t out) (completes (d .receiver) b h)
-
-  by-ends : {P : Type 0} → (length b < wanted → P) → (wanted ≤ length b → P) → P
-  by-ends f g = bool-cases (ltb (length b) wanted) (λ e. f (ltb-true (length b) wanted e)) (λ e. g (ltb-false (length b) wanted e))
+  call-answers : wanted ≤ length b → receiveCall d b out ≡ answered (d .states) (completed afterCmd4 (framedBy (d .receiver)) b wanted) out
+  unfolding completed
+  call-answers h = not-refused ∙ ap (λ (t : Received). ended (d .states) t out) (completes afterCmd4 (framedBy (d .receiver)) b h)
 
 -- what is received of a packet that is not complete is short of its size
 few : (d : Device) (b : List ℕ) → inRule d ≡ true → length b < missing (framedBy (d .receiver)) b
@@ -98,29 +109,27 @@ unfolding missing
 few d [] r h = omega (arith, unfinished d r)
 few d (x ∷ b) r h = omega (arith, unfinished d r)
 
-ready-waiting : (d : Device) (b : List ℕ) → Ready d → length b < missing (framedBy (d .receiver)) b
-    → Ready (record { states = d .states; receiver = with (d .receiver) b })
+ready-waiting : (d : Device) (b : List ℕ) → Ready d → length b < missing (framedBy (d .receiver)) b → Ready (deviceAfter d b)
 ready-waiting d b k h =
     record {
-      rule = rule-by (record { states = d .states; receiver = with (d .receiver) b }) (range-of d (k .rule)) (unfold with packetWith in few d b (k .rule) h);
-      made = made-with (d .receiver) b (k .made);
+      rule = rule-by (deviceAfter d b) (range-of d (k .rule)) (unfold with in few d b (k .rule) h);
+      made = made-with (framedBy (d .receiver)) b (k .made);
     }
 
 -- a complete packet leaves the device in rule
-ready-answered : (d : Device) (b out : List ℕ) (n : ℕ) → Ready d → Ready (answered (d .states) (taking (d .receiver) b (completed (framedBy (d .receiver)) 0 b n)) out .device)
+ready-answered : (d : Device) (b out : List ℕ) (n : ℕ) → Ready d → Ready (answered (d .states) (completed afterCmd4 (framedBy (d .receiver)) b n) out .device)
+unfolding completed
 ready-answered d b out n k =
-    let t : Received = taking (d .receiver) b (completed (framedBy (d .receiver)) 0 b n) in
+    let t : Received = completed afterCmd4 (framedBy (d .receiver)) b n in
     record {
-      rule =
-          rule-by (answered (d .states) t out .device) (in-range-kept (d .states) (judgedIn t) (range-of d (k .rule)))
-          (omega (arith, received-none (d .receiver) b n));
-      made = made-completed (d .receiver) b n (k .made);
+      rule = rule-by (answered (d .states) t out .device) (in-range-kept (d .states) (judgedIn t) (range-of d (k .rule))) (omega arith);
+      made = let m = made-with (framedBy (d .receiver)) (take (n - 1) b) (k .made) in record { header = m .header; id = m .id };
     }
 
 -- In rule stays in rule, whatever bytes come.
 pub stays-in-rule : (d : Device) (b out : List ℕ) → Ready d → 64 ≤ length out → Ready (receiveCall d b out .device)
 stays-in-rule d b out k l =
-    by-ends d b out k l
+    lt-cases (length b) (missing (framedBy (d .receiver)) b)
     (λ h. subst (λ (r : After). Ready (r .device)) (sym (call-waits d b out k l h)) (ready-waiting d b k h))
     (λ h. subst (λ (r : After). Ready (r .device)) (sym (call-answers d b out k l h)) (ready-answered d b out (missing (framedBy (d .receiver)) b) k))
 
@@ -128,14 +137,15 @@ stays-in-rule d b out k l =
 module _ (out : List ℕ) (l : 64 ≤ length out) where
   none-waits : (d : Device) (a : List ℕ) → Ready d → serves out d a .gives ≡ none → length a < missing (framedBy (d .receiver)) a
   none-waits d a k g =
-      by-ends d a out k l (λ h. h)
+      lt-cases (length a) (missing (framedBy (d .receiver)) a)
+      (λ h. h)
       (λ h.
       let e = sym (ap (λ (r : After). shown r .gives) (call-answers d a out k l h)) ∙ g in
       let z : _≡_ {A = ℕ} 0 1 = cc in absurd (omega arith))
 
   some-answers : (d : Device) (a e : List ℕ) → Ready d → serves out d a .gives ≡ some e → missing (framedBy (d .receiver)) a ≤ length a
   some-answers d a e k g =
-      by-ends d a out k l
+      lt-cases (length a) (missing (framedBy (d .receiver)) a)
       (λ h.
       let e = sym (ap (λ (r : After). shown r .gives) (call-waits d a out k l h)) ∙ g in
       let z : _≡_ {A = ℕ} 0 1 = cc in absurd (omega arith))
@@ -148,30 +158,34 @@ module _ (out : List ℕ) (l : 64 ≤ length out) where
   shown-by s n t false = refl
 
   cut-call : (d : Device) (a b : List ℕ) → Ready d → length a < missing (framedBy (d .receiver)) a
-      → serves out d (a ++ b) ≡ shifted (length a) (serves out (record { states = d .states; receiver = with (d .receiver) a }) b)
+      → serves out d (a ++ b) ≡ shifted (length a) (serves out (deviceAfter d a) b)
   cut-call d a b k h =
-      let t : Received = receiving (with (d .receiver) a) b in
+      let t : Received = receiving (deviceAfter d a .receiver) b in
       ap shown (not-refused d (a ++ b) out k l)
-      ∙ ap (λ (t : Received). shown (ended (d .states) t out)) (cut (d .receiver) a b (k .made .header) h)
+      ∙ ap (λ (t : Received). shown (ended (d .states) t out)) (cut afterCmd4 (framedBy (d .receiver)) a b (k .made .header) h)
       ∙ shown-by (d .states) (length a) t (t .complete)
-      ∙ ap (λ (r : After). shifted (length a) (shown r))
-      (sym (not-refused (record { states = d .states; receiver = with (d .receiver) a }) b out (ready-waiting d a k h) l))
+      ∙ ap (λ (r : After). shifted (length a) (shown r)) (sym (not-refused (deviceAfter d a) b out (ready-waiting d a k h) l))
 
   behind-call : (d : Device) (a b : List ℕ) → Ready d → missing (framedBy (d .receiver)) a ≤ length a → serves out d (a ++ b) ≡ serves out d a
   behind-call d a b k h =
       ap shown (not-refused d (a ++ b) out k l)
-      ∙ ap (λ (t : Received). shown (ended (d .states) t out)) (behind (d .receiver) a b (k .made .header) h)
+      ∙ ap (λ (t : Received). shown (ended (d .states) t out)) (behind afterCmd4 (framedBy (d .receiver)) a b (k .made .header) h)
       ∙ sym (ap shown (not-refused d a out k l))
 
+  no-bytes : (d : Device) → Ready d → serves out d [] ≡ record { taken = 0; gives = none; state = d }
+  no-bytes d k =
+      ap shown (call-waits d [] out k l (omega (arith, missing-least (framedBy (d .receiver)) [])))
+      ∙ ap (λ (q : PacketReceiver). record { taken = 0; gives = none; state = record { states = d .states; receiver = receiverOf q } }) (with-nil afterCmd4 (framedBy (d .receiver)))
+
   count-answers : (d : Device) (a : List ℕ) → Ready d → missing (framedBy (d .receiver)) a ≤ length a → serves out d a .taken ≡ missing (framedBy (d .receiver)) a
-  unfolding taking completed
+  unfolding completed
   count-answers d a k h = ap (λ (r : After). shown r .taken) (call-answers d a out k l h)
 
   pub endpoint-streams : Streaming (serves out) Ready
   endpoint-streams =
       record {
         keeps = λ d b k. stays-in-rule d b out k l;
-        empty = λ d k. ap shown (not-refused d [] out k l) ∙ ap (λ (t : Received). shown (ended (d .states) t out)) (no-bytes (d .receiver) (k .made .sum));
+        empty = λ d k. no-bytes d k;
         cut = λ d a b k g.
             let h = none-waits d a k g in
             cut-call d a b k h ∙ ap (λ (x : Device). shifted (length a) (serves out x b)) (sym (ap (λ (r : After). r .device) (call-waits d a out k l h)));
