@@ -1,9 +1,12 @@
 -- The receive call: when it refuses, and what it answers and leaves.
 use Prim.Native.Nat.{ℕ}
-use mathlib.Core.Bool.{cond}
+use mathlib.Core.Bool.{true, cond}
 use mathlib.Core.List.{List}
+use mathlib.Core.Option.{Option, none, some}
+use mathlib.Core.Path.{_≡_}
 use lib.Dec.{ltb}
-use lib.ListN.{length}
+use lib.ListN.{length, take}
+use Rattle.packet.specs.Calls.{Call}
 use Rattle.packet.specs.Writer.{written}
 use Rattle.packet.specs.Receiver.{Received}
 use Rattle.dlpc200.specs.Receiver.{receiverOf, receiving}
@@ -69,3 +72,29 @@ ended s t out = cond (t .complete) (answered s t out) (waiting s t out)
 unfoldable pub receiveCall : Device → List ℕ → List ℕ → After
 receiveCall d input out =
     cond (ltb (length out) 64) (refused 1 d out) (cond (inRule d) (ended (d .states) (receiving (d .receiver) input) out) (refused 3 d out))
+
+-- A stream handed over call after call (the packet layer's `served`): what a call shows are the bytes taken and, where a packet is complete, the response at the output's start.
+
+abbrev pub takenOf : Outcome → ℕ
+takenOf (Refuses n) = 0
+takenOf (Waits n) = n
+takenOf (Answers n m) = n
+
+abbrev pub givenBy : Outcome → List ℕ → Option (List ℕ)
+givenBy (Refuses n) out = none
+givenBy (Waits n) out = none
+givenBy (Answers n m) out = some (take m out)
+
+abbrev pub shown : After → Call Device (List ℕ)
+shown r = record { taken = takenOf (r .answer); gives = givenBy (r .answer) (r .output); state = r .device }
+
+-- the receive call with this output lent
+abbrev pub serves : List ℕ → Device → List ℕ → Call Device (List ℕ)
+serves out d b = shown (receiveCall d b out)
+
+-- a device in rule with nothing half received, its arrays of their sizes; the sum may be any
+pub record Boundary (d : Device) : Type 0 where
+  pub rule : inRule d ≡ true
+  pub received : d .receiver .received ≡ 0
+  pub header : length (d .receiver .header) ≡ 6
+  pub id : length (d .receiver .id) ≡ 2

@@ -18,16 +18,16 @@ use Rattle.packet.proofs.StreamLaws.{IsPacket, packets-cons, rest-cons, packets
 use Rattle.packet.proofs.Calls.{same-calls}
 use Rattle.packet.specs.Writer.{written}
 use Rattle.packet.specs.Receiver.{Receiver as PacketReceiver, Received, with, waiting as packetWaiting}
-use Rattle.packet.proofs.ReceiverLaws.{Between, between-packet, afterPacket, rightFrom, one, first-of, too-few}
+use Rattle.packet.proofs.ReceiverLaws.{Between, afterPacket, rightFrom, one, first-of, too-few}
 use Rattle.dlpc200.specs.Packet.{afterCmd4, checksum, rightSum}
 use Rattle.dlpc200.specs.Receiver.{framedBy, receiverOf}
 use Rattle.dlpc200.specs.Judgement.{commandIn, arrivedBy, arrived, judge, statesAfter}
 use Rattle.dlpc200.specs.Response.{response}
 use Rattle.dlpc200.specs.declared.states.States.{States}
 use Rattle.dlpc200.specs.Playing.{judged, answerTo, next, responses, after}
-use Rattle.dlpc200.specs.Endpoint.{Waits, arrivedIn, judgedIn, responseIn, After, answered, ended, receiveCall}
+use Rattle.dlpc200.specs.Endpoint.{Waits, arrivedIn, judgedIn, responseIn, After, answered, ended, receiveCall, shown, serves, Boundary}
 use Rattle.dlpc200.specs.declared.device.Device.{Device}
-use Rattle.dlpc200.proofs.endpoint.Laws.{serves, shown, Made, Ready, deviceAfter, not-refused, stays-in-rule, endpoint-streams, cut-anywhere}
+use Rattle.dlpc200.proofs.endpoint.Laws.{Made, Ready, deviceAfter, not-refused, stays-in-rule, endpoint-streams, cut-anywhere}
 
 -- The packet that the receiver has received is the packet of its bytes.
 module _ (p : List ℕ) (i : IsPacket p) (id : List ℕ) (m : length id ≡ 2) where
@@ -85,14 +85,23 @@ pub record Follows (d : Device) (b : List ℕ) (r : Served Device (List ℕ)) : 
   pub boundary : Between base
   pub left : framedBy (r .state .receiver) ≡ with afterCmd4 base (rest b)
 
+-- a device between two packets is ready, and its receiver is between them
+ready : (d : Device) → Boundary d → Ready d
+ready d z = record { rule = z .rule; made = record { header = z .header; id = z .id } }
+
+between : (d : Device) → Boundary d → Between (framedBy (d .receiver))
+between d z = record { header = z .header; received = z .received }
+
 module _ (out : List ℕ) (l : 64 ≤ length out) where
   -- the claim of `follows` for one stream
   abbrev Claim : List ℕ → Type 0
-  Claim b = (d : Device) → Ready d → Between (framedBy (d .receiver)) → Follows d b (servedOne (serves out) d b)
+  Claim b = (d : Device) → Boundary d → Follows d b (servedOne (serves out) d b)
 
   follows-none : (b : List ℕ) → hasPacket b ≡ false → Claim b
   unfolding servedOne callsOn responses after packetWaiting
-  follows-none b h d k q =
+  follows-none b h d z =
+      let k = ready d z in
+      let q = between d z in
       let e : receiveCall d b out ≡ record { answer = Waits (length b); device = deviceAfter d b; output = out } =
       not-refused d b out k l ∙ ap (λ (t : Received). ended (d .states) t out) (too-few afterCmd4 (framedBy (d .receiver)) q b h) in
       let f : servedOne (serves out) d b ≡ record { given = []; state = deviceAfter d b } =
@@ -109,7 +118,9 @@ module _ (out : List ℕ) (l : 64 ≤ length out) where
   -- one packet more
   follows-more : (p b : List ℕ) → IsPacket p → Claim b → Claim (p ++ b)
   unfolding servedOne callsOn responses after written
-  follows-more p b i ih d k q =
+  follows-more p b i ih d z =
+      let k = ready d z in
+      let q = between d z in
       let t : Received = one afterCmd4 (framedBy (d .receiver)) p in
       let x : Device = record { states = statesAfter (d .states) (judgedIn (one afterCmd4 (framedBy (d .receiver)) p)); receiver = receiverOf (afterPacket (framedBy (d .receiver)) p) } in
       let m : List ℕ = responseIn (d .states) (one afterCmd4 (framedBy (d .receiver)) p) in
@@ -125,7 +136,7 @@ module _ (out : List ℕ) (l : 64 ≤ length out) where
       ap (λ (r : After). andThen (shown r .gives) (shown r .state) (callsOn (serves out) (length (p ++ b)) (shown r .state) (drop (shown r .taken) (p ++ b)))) e
       ∙ ap (λ (y : List ℕ). andThen (some y) x (callsOn (serves out) (length (p ++ b)) x (drop (length p) (p ++ b)))) (take-at m (drop (length m) out) (length m) refl)
       ∙ ap (λ (y : Served Device (List ℕ)). andThen (some m) x y) rest-calls in
-      let g = ih x kx (between-packet (framedBy (d .receiver)) p i) in
+      let g = ih x (record { rule = kx .rule; received = refl; header = kx .made .header; id = kx .made .id }) in
       let s : x .states ≡ next (d .states) p = same-states (d .states) (framedBy (d .receiver)) (k .made) p i in
       subst (Follows d (p ++ b)) (sym f)
       (record {
@@ -138,11 +149,11 @@ module _ (out : List ℕ) (l : 64 ≤ length out) where
         left = g .left ∙ ap (with afterCmd4 (g .base)) (sym (rest-cons p b i));
       })
 
-  -- Over whole streams: on every device in rule at a packet boundary, the responses in order, the states and the unfinished packet
+  -- Over whole streams: on every device in rule with nothing half received, whatever its sum, the responses in order, the states and the unfinished packet
   -- are those of judging the stream's packets one after the other.
   pub follows : (b : List ℕ) → Claim b
   follows = packet-induction Claim follows-none follows-more
 
   -- And so however the stream was cut.
-  pub follows-pieces : (bs : List (List ℕ)) (d : Device) → Ready d → Between (framedBy (d .receiver)) → Follows d (joined bs) (served (serves out) d bs)
-  follows-pieces bs d k q = subst (Follows d (joined bs)) (sym (cut-anywhere out l d bs k)) (follows (joined bs) d k q)
+  pub follows-pieces : (bs : List (List ℕ)) (d : Device) → Boundary d → Follows d (joined bs) (served (serves out) d bs)
+  follows-pieces bs d z = subst (Follows d (joined bs)) (sym (cut-anywhere out l d bs (ready d z))) (follows (joined bs) d z)

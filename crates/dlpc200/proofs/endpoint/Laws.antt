@@ -3,24 +3,24 @@ use Prim.Native.Nat.{ℕ, _+_, _-_, _<_, _≤_}
 use mathlib.Core.Path.{_≡_, refl, ap, sym, subst, _∙_}
 use mathlib.Core.Bool.{Bool, true, false, cond}
 use mathlib.Core.List.{List, [], _∷_, _++_}
-use mathlib.Core.Option.{Option, none, some}
+use mathlib.Core.Option.{none, some}
 use native.Mathlib.Omega.{arith}
 use lib.Dec.{ltb}
 use borrow.Author.Tests.{lt-ltb, le-ltb, ltb-true}
 use lib.ListN.{length, take}
-use lib.Seq.{sets, length-sets}
+use lib.Seq.{sets, length-sets, length-take-le}
 use Rattle.packet.specs.Packet.{payloadLength}
-use Rattle.packet.specs.Receiver.{Receiver as PacketReceiver, Received, with, missing, waiting as packetWaiting, completed, packetInRule}
-use Rattle.packet.specs.Calls.{Call, servedOne, served, joined}
+use Rattle.packet.specs.Receiver.{Receiver as PacketReceiver, Received, runningWith, with, missing, waiting as packetWaiting, completed, receiving as packetReceiving, packetInRule}
+use Rattle.packet.specs.Calls.{servedOne, served, joined}
 use Rattle.packet.proofs.Cases.{lt-cases, and-left, and-right, and-both}
-use Rattle.packet.proofs.ReceiverLaws.{with-nil, hold-length, missing-least, after, cut, behind, waits, completes}
+use Rattle.packet.proofs.ReceiverLaws.{running-anew, with-nil, hold-length, missing-least, after, cut, behind, waits, completes}
 use Rattle.packet.proofs.Calls.{Streaming, shifted, in-pieces}
 use Rattle.dlpc200.specs.Packet.{afterCmd4}
 use Rattle.dlpc200.specs.Receiver.{framedBy, receiverOf, receiving}
 use Rattle.dlpc200.specs.States.{inRange}
 use Rattle.dlpc200.specs.declared.states.States.{States}
 use Rattle.dlpc200.proofs.judgement.Laws.{in-range-kept}
-use Rattle.dlpc200.specs.Endpoint.{Outcome, Refuses, Waits, Answers, judgedIn, responseIn, After, refused, waiting, answered, ended, receiveCall}
+use Rattle.dlpc200.specs.Endpoint.{Waits, judgedIn, responseIn, After, refused, waiting, answered, ended, receiveCall, shown, serves}
 use Rattle.dlpc200.specs.Device.{inRule}
 use Rattle.dlpc200.specs.declared.device.Device.{Device}
 
@@ -33,24 +33,6 @@ short-output d b out h = rw (lt-ltb (length out) 64 h)
 pub out-of-rule : (d : Device) (b out : List ℕ) → 64 ≤ length out → inRule d ≡ false → receiveCall d b out ≡ refused 3 d out
 unfolding receiveCall
 out-of-rule d b out h r = rw (le-ltb (length out) 64 h, r)
-
--- what a call shows of its answer: the bytes taken, and the response at the output's start
-abbrev pub takenOf : Outcome → ℕ
-takenOf (Refuses n) = 0
-takenOf (Waits n) = n
-takenOf (Answers n m) = n
-
-abbrev pub givenBy : Outcome → List ℕ → Option (List ℕ)
-givenBy (Refuses n) out = none
-givenBy (Waits n) out = none
-givenBy (Answers n m) out = some (take m out)
-
-abbrev pub shown : After → Call Device (List ℕ)
-shown r = record { taken = takenOf (r .answer); gives = givenBy (r .answer) (r .output); state = r .device }
-
--- the receive call with this output lent
-abbrev pub serves : List ℕ → Device → List ℕ → Call Device (List ℕ)
-serves out d b = shown (receiveCall d b out)
 
 -- a receiver as the code has it: its header has six bytes, and its ID two
 pub record Made (q : PacketReceiver) : Type 0 where
@@ -132,6 +114,55 @@ stays-in-rule d b out k l =
     lt-cases (length b) (missing (framedBy (d .receiver)) b)
     (λ h. subst (λ (r : After). Ready (r .device)) (sym (call-waits d b out k l h)) (ready-waiting d b k h))
     (λ h. subst (λ (r : After). Ready (r .device)) (sym (call-answers d b out k l h)) (ready-answered d b out (missing (framedBy (d .receiver)) b) k))
+
+-- With up to four bytes received nothing is summed yet: the sum begins anew with the first byte after CMD4, whatever stood there.
+
+-- the receiver with another sum
+abbrev withSum : PacketReceiver → ℕ → PacketReceiver
+withSum q n = record { header = q .header; running = n; received = q .received; hold = q .hold }
+
+module _ (q : PacketReceiver) (n : ℕ) (l : q .received ≤ afterCmd4) where
+  with-anew : (b : List ℕ) → afterCmd4 < q .received + length b → with afterCmd4 (withSum q n) b ≡ with afterCmd4 q b
+  unfolding with
+  with-anew b m =
+      let e : runningWith afterCmd4 (q .received) n b ≡ runningWith afterCmd4 (q .received) (q .running) b =
+      sym (running-anew afterCmd4 (q .received) n b (omega arith) l refl) ∙ running-anew afterCmd4 (q .received) (q .running) b (omega arith) l refl in
+      rw e
+
+  waiting-anew : (b : List ℕ) → afterCmd4 < q .received + length b → packetWaiting afterCmd4 (withSum q n) b ≡ packetWaiting afterCmd4 q b
+  unfolding packetWaiting
+  waiting-anew b m = rw (with-anew b m)
+
+  -- before the checksum stands the length at least
+  length-before : (b : List ℕ) → missing q b ≤ length b → afterCmd4 < q .received + length (take (missing q b - 1) b)
+  unfolding missing
+  length-before b m = omega (arith, length-take-le (missing q b - 1) b (omega arith))
+
+  completed-anew : (b : List ℕ) → missing q b ≤ length b → completed afterCmd4 (withSum q n) b (missing q b) ≡ completed afterCmd4 q b (missing q b)
+  unfolding completed
+  completed-anew b m = rw (with-anew (take (missing q b - 1) b) (length-before b m))
+
+  missing-anew : (b : List ℕ) → missing (withSum q n) b ≡ missing q b
+  unfolding missing
+  missing-anew b = refl
+
+  receiving-anew : (b : List ℕ) → afterCmd4 < q .received + length b → packetReceiving afterCmd4 (withSum q n) b ≡ packetReceiving afterCmd4 q b
+  receiving-anew b m =
+      lt-cases (length b) (missing q b)
+      (λ h. waits afterCmd4 (withSum q n) b (omega (arith, missing-anew b)) ∙ waiting-anew b m ∙ sym (waits afterCmd4 q b h))
+      (λ h.
+      completes afterCmd4 (withSum q n) b (omega (arith, missing-anew b))
+      ∙ ap (completed afterCmd4 (withSum q n) b) (missing-anew b)
+      ∙ completed-anew b h
+      ∙ sym (completes afterCmd4 q b h))
+
+pub sum-begins-anew : (d : Device) (n : ℕ) (b out : List ℕ) → Ready d → 64 ≤ length out → d .receiver .received ≤ 4 → 4 < d .receiver .received + length b
+    → receiveCall (record { states = d .states; receiver = receiverOf (withSum (framedBy (d .receiver)) n) }) b out ≡ receiveCall d b out
+sum-begins-anew d n b out k l h m =
+    let q : PacketReceiver = framedBy (d .receiver) in
+    not-refused (record { states = d .states; receiver = receiverOf (withSum q n) }) b out (record { rule = k .rule; made = record { header = k .made .header; id = k .made .id } }) l
+    ∙ ap (λ (t : Received). ended (d .states) t out) (receiving-anew q n h b m)
+    ∙ sym (not-refused d b out k l)
 
 -- The receive call over a stream.
 module _ (out : List ℕ) (l : 64 ≤ length out) where
