@@ -34,7 +34,7 @@ struct dlpc200_reply {
     uint8_t kind;   /* one of the three above */
     uint8_t number; /* of a refusal: 1 (output under 64 bytes) or 3 (device out of rule) */
     size_t taken;   /* bytes of the input that were taken */
-    size_t length;  /* of the response at the start of the output */
+    size_t size;    /* of the response at the start of the output */
 };
 
 struct dlpc200_stepped {

@@ -61,7 +61,7 @@ struct Reply {
     kind: u8,
     number: u8,
     taken: usize,
-    length: usize,
+    size: usize,
 }
 
 #[repr(C)]
@@ -84,7 +84,7 @@ mod calls {
 fn answer(reply: Reply) -> Answer {
     match reply.kind {
         0 => Answer::Waiting { taken: reply.taken },
-        1 => Answer::Answered { taken: reply.taken, length: reply.length },
+        1 => Answer::Answered { taken: reply.taken, length: reply.size },
         _ => Answer::Refused(reply.number),
     }
 }
