@@ -32,7 +32,7 @@ pub struct Receiver {
     pub header: [u8; 6],
     /// Data[0], Data[1]
     pub id: [u8; 2],
-    /// of the bytes after CMD4
+    /// of the bytes after CMD4, begun anew with the first of them
     pub sum: u8,
     /// bytes of the current packet
     pub received: usize,

@@ -1,5 +1,5 @@
 -- The receive call: when it refuses, and what it answers and leaves.
-use Prim.Native.Nat.{ℕ}
+use Prim.Native.Nat.{ℕ, _+_, _<_, _≤_}
 use mathlib.Core.Bool.{true, cond}
 use mathlib.Core.List.{List}
 use mathlib.Core.Option.{Option, none, some}
@@ -9,6 +9,7 @@ use lib.ListN.{length, take}
 use Rattle.packet.specs.Calls.{Call}
 use Rattle.packet.specs.Writer.{written}
 use Rattle.packet.specs.Receiver.{Received}
+use Rattle.dlpc200.specs.Packet.{afterCmd4}
 use Rattle.dlpc200.specs.Receiver.{receiverOf, receiving}
 use Rattle.dlpc200.specs.Judgement.{Arrived, arrivedBy, judge, statesAfter}
 use Rattle.dlpc200.specs.Response.{response}
@@ -98,3 +99,22 @@ pub record Boundary (d : Device) : Type 0 where
   pub received : d .receiver .received ≡ 0
   pub header : length (d .receiver .header) ≡ 6
   pub id : length (d .receiver .id) ≡ 2
+
+-- With up to four bytes received nothing is summed yet: the sum begins anew with the first byte after CMD4. To a call that takes that byte it does not matter
+-- what stood in the sum.
+
+abbrev pub withSum : Device → ℕ → Device
+withSum d n =
+    record {
+      states = d .states;
+      receiver = record { header = d .receiver .header; id = d .receiver .id; sum = n; received = d .receiver .received };
+    }
+
+abbrev pub SumBegins : Type 0
+SumBegins =
+    (d : Device) (n : ℕ) (b out : List ℕ)
+    → 64 ≤ length out
+    → inRule d ≡ true
+    → d .receiver .received ≤ afterCmd4
+    → afterCmd4 < d .receiver .received + length b
+    → receiveCall (withSum d n) b out ≡ receiveCall d b out

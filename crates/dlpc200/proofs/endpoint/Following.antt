@@ -103,7 +103,7 @@ module _ (out : List ℕ) (l : 64 ≤ length out) where
       let k = ready d z in
       let q = between d z in
       let e : receiveCall d b out ≡ record { answer = Waits (length b); device = deviceAfter d b; output = out } =
-      not-refused d b out k l ∙ ap (λ (t : Received). ended (d .states) t out) (too-few afterCmd4 (framedBy (d .receiver)) q b h) in
+      not-refused d b out (k .rule) l ∙ ap (λ (t : Received). ended (d .states) t out) (too-few afterCmd4 (framedBy (d .receiver)) q b h) in
       let f : servedOne (serves out) d b ≡ record { given = []; state = deviceAfter d b } =
       ap (λ (x : After). andThen (shown x .gives) (shown x .state) (callsOn (serves out) (length b) (serves out d b .state) (drop (serves out d b .taken) b))) e in
       subst (Follows d b) (sym f)
@@ -125,7 +125,7 @@ module _ (out : List ℕ) (l : 64 ≤ length out) where
       let x : Device = record { states = statesAfter (d .states) (judgedIn (one afterCmd4 (framedBy (d .receiver)) p)); receiver = receiverOf (afterPacket (framedBy (d .receiver)) p) } in
       let m : List ℕ = responseIn (d .states) (one afterCmd4 (framedBy (d .receiver)) p) in
       let e : receiveCall d (p ++ b) out ≡ answered (d .states) (one afterCmd4 (framedBy (d .receiver)) p) out =
-      not-refused d (p ++ b) out k l ∙ ap (λ (t : Received). ended (d .states) t out) (first-of afterCmd4 (framedBy (d .receiver)) q p b (omega arith) i) in
+      not-refused d (p ++ b) out (k .rule) l ∙ ap (λ (t : Received). ended (d .states) t out) (first-of afterCmd4 (framedBy (d .receiver)) q p b (omega arith) i) in
       let kx : Ready (record { states = statesAfter (d .states) (judgedIn (one afterCmd4 (framedBy (d .receiver)) p)); receiver = receiverOf (afterPacket (framedBy (d .receiver)) p) }) =
       subst (λ (r : After). Ready (r .device)) e (stays-in-rule d (p ++ b) out k l) in
       let n : length (p ++ b) ≡ length p + length b = length-append p b in

@@ -20,7 +20,7 @@ use Rattle.dlpc200.specs.Receiver.{framedBy, receiverOf, receiving}
 use Rattle.dlpc200.specs.States.{inRange}
 use Rattle.dlpc200.specs.declared.states.States.{States}
 use Rattle.dlpc200.proofs.judgement.Laws.{in-range-kept}
-use Rattle.dlpc200.specs.Endpoint.{Waits, judgedIn, responseIn, After, refused, waiting, answered, ended, receiveCall, shown, serves}
+use Rattle.dlpc200.specs.Endpoint.{Waits, judgedIn, responseIn, After, refused, waiting, answered, ended, receiveCall, shown, serves, withSum, SumBegins}
 use Rattle.dlpc200.specs.Device.{inRule}
 use Rattle.dlpc200.specs.declared.device.Device.{Device}
 
@@ -67,22 +67,23 @@ rule-by d h l =
 abbrev pub deviceAfter : Device → List ℕ → Device
 deviceAfter d b = record { states = d .states; receiver = receiverOf (with afterCmd4 (framedBy (d .receiver)) b) }
 
--- The two ends of a call that is not refused.
-module _ (d : Device) (b out : List ℕ) (k : Ready d) (l : 64 ≤ length out) where
-  pub not-refused : receiveCall d b out ≡ ended (d .states) (receiving (d .receiver) b) out
-  unfolding receiveCall
-  not-refused = rw (le-ltb (length out) 64 l, k .rule)
+-- A call that is not refused,
+pub not-refused : (d : Device) (b out : List ℕ) → inRule d ≡ true → 64 ≤ length out → receiveCall d b out ≡ ended (d .states) (receiving (d .receiver) b) out
+unfolding receiveCall
+not-refused d b out r l = rw (le-ltb (length out) 64 l, r)
 
+-- and its two ends.
+module _ (d : Device) (b out : List ℕ) (k : Ready d) (l : 64 ≤ length out) where
   abbrev wanted : ℕ
   wanted = missing (framedBy (d .receiver)) b
 
   call-waits : length b < wanted → receiveCall d b out ≡ record { answer = Waits (length b); device = deviceAfter d b; output = out }
   unfolding packetWaiting
-  call-waits h = not-refused ∙ ap (λ (t : Received). ended (d .states) t out) (waits afterCmd4 (framedBy (d .receiver)) b h)
+  call-waits h = not-refused d b out (k .rule) l ∙ ap (λ (t : Received). ended (d .states) t out) (waits afterCmd4 (framedBy (d .receiver)) b h)
 
   call-answers : wanted ≤ length b → receiveCall d b out ≡ answered (d .states) (completed afterCmd4 (framedBy (d .receiver)) b wanted) out
   unfolding completed
-  call-answers h = not-refused ∙ ap (λ (t : Received). ended (d .states) t out) (completes afterCmd4 (framedBy (d .receiver)) b h)
+  call-answers h = not-refused d b out (k .rule) l ∙ ap (λ (t : Received). ended (d .states) t out) (completes afterCmd4 (framedBy (d .receiver)) b h)
 
 -- what is received of a packet that is not complete is short of its size
 few : (d : Device) (b : List ℕ) → inRule d ≡ true → length b < missing (framedBy (d .receiver)) b
@@ -115,21 +116,21 @@ stays-in-rule d b out k l =
     (λ h. subst (λ (r : After). Ready (r .device)) (sym (call-waits d b out k l h)) (ready-waiting d b k h))
     (λ h. subst (λ (r : After). Ready (r .device)) (sym (call-answers d b out k l h)) (ready-answered d b out (missing (framedBy (d .receiver)) b) k))
 
--- With up to four bytes received nothing is summed yet: the sum begins anew with the first byte after CMD4, whatever stood there.
+-- With up to four bytes received the sum begins anew.
 
 -- the receiver with another sum
-abbrev withSum : PacketReceiver → ℕ → PacketReceiver
-withSum q n = record { header = q .header; running = n; received = q .received; hold = q .hold }
+abbrev otherSum : PacketReceiver → ℕ → PacketReceiver
+otherSum q n = record { header = q .header; running = n; received = q .received; hold = q .hold }
 
 module _ (q : PacketReceiver) (n : ℕ) (l : q .received ≤ afterCmd4) where
-  with-anew : (b : List ℕ) → afterCmd4 < q .received + length b → with afterCmd4 (withSum q n) b ≡ with afterCmd4 q b
+  with-anew : (b : List ℕ) → afterCmd4 < q .received + length b → with afterCmd4 (otherSum q n) b ≡ with afterCmd4 q b
   unfolding with
   with-anew b m =
       let e : runningWith afterCmd4 (q .received) n b ≡ runningWith afterCmd4 (q .received) (q .running) b =
       sym (running-anew afterCmd4 (q .received) n b (omega arith) l refl) ∙ running-anew afterCmd4 (q .received) (q .running) b (omega arith) l refl in
       rw e
 
-  waiting-anew : (b : List ℕ) → afterCmd4 < q .received + length b → packetWaiting afterCmd4 (withSum q n) b ≡ packetWaiting afterCmd4 q b
+  waiting-anew : (b : List ℕ) → afterCmd4 < q .received + length b → packetWaiting afterCmd4 (otherSum q n) b ≡ packetWaiting afterCmd4 q b
   unfolding packetWaiting
   waiting-anew b m = rw (with-anew b m)
 
@@ -138,31 +139,29 @@ module _ (q : PacketReceiver) (n : ℕ) (l : q .received ≤ afterCmd4) where
   unfolding missing
   length-before b m = omega (arith, length-take-le (missing q b - 1) b (omega arith))
 
-  completed-anew : (b : List ℕ) → missing q b ≤ length b → completed afterCmd4 (withSum q n) b (missing q b) ≡ completed afterCmd4 q b (missing q b)
+  completed-anew : (b : List ℕ) → missing q b ≤ length b → completed afterCmd4 (otherSum q n) b (missing q b) ≡ completed afterCmd4 q b (missing q b)
   unfolding completed
   completed-anew b m = rw (with-anew (take (missing q b - 1) b) (length-before b m))
 
-  missing-anew : (b : List ℕ) → missing (withSum q n) b ≡ missing q b
+  missing-anew : (b : List ℕ) → missing (otherSum q n) b ≡ missing q b
   unfolding missing
   missing-anew b = refl
 
-  receiving-anew : (b : List ℕ) → afterCmd4 < q .received + length b → packetReceiving afterCmd4 (withSum q n) b ≡ packetReceiving afterCmd4 q b
+  receiving-anew : (b : List ℕ) → afterCmd4 < q .received + length b → packetReceiving afterCmd4 (otherSum q n) b ≡ packetReceiving afterCmd4 q b
   receiving-anew b m =
       lt-cases (length b) (missing q b)
-      (λ h. waits afterCmd4 (withSum q n) b (omega (arith, missing-anew b)) ∙ waiting-anew b m ∙ sym (waits afterCmd4 q b h))
+      (λ h. waits afterCmd4 (otherSum q n) b (omega (arith, missing-anew b)) ∙ waiting-anew b m ∙ sym (waits afterCmd4 q b h))
       (λ h.
-      completes afterCmd4 (withSum q n) b (omega (arith, missing-anew b))
-      ∙ ap (completed afterCmd4 (withSum q n) b) (missing-anew b)
+      completes afterCmd4 (otherSum q n) b (omega (arith, missing-anew b))
+      ∙ ap (completed afterCmd4 (otherSum q n) b) (missing-anew b)
       ∙ completed-anew b h
       ∙ sym (completes afterCmd4 q b h))
 
-pub sum-begins-anew : (d : Device) (n : ℕ) (b out : List ℕ) → Ready d → 64 ≤ length out → d .receiver .received ≤ 4 → 4 < d .receiver .received + length b
-    → receiveCall (record { states = d .states; receiver = receiverOf (withSum (framedBy (d .receiver)) n) }) b out ≡ receiveCall d b out
-sum-begins-anew d n b out k l h m =
-    let q : PacketReceiver = framedBy (d .receiver) in
-    not-refused (record { states = d .states; receiver = receiverOf (withSum q n) }) b out (record { rule = k .rule; made = record { header = k .made .header; id = k .made .id } }) l
-    ∙ ap (λ (t : Received). ended (d .states) t out) (receiving-anew q n h b m)
-    ∙ sym (not-refused d b out k l)
+pub sum-begins : SumBegins
+sum-begins d n b out l r h m =
+    not-refused (withSum d n) b out r l
+    ∙ ap (λ (t : Received). ended (d .states) t out) (receiving-anew (framedBy (d .receiver)) n h b m)
+    ∙ sym (not-refused d b out r l)
 
 -- The receive call over a stream.
 module _ (out : List ℕ) (l : 64 ≤ length out) where
@@ -192,16 +191,16 @@ module _ (out : List ℕ) (l : 64 ≤ length out) where
       → serves out d (a ++ b) ≡ shifted (length a) (serves out (deviceAfter d a) b)
   cut-call d a b k h =
       let t : Received = receiving (deviceAfter d a .receiver) b in
-      ap shown (not-refused d (a ++ b) out k l)
+      ap shown (not-refused d (a ++ b) out (k .rule) l)
       ∙ ap (λ (t : Received). shown (ended (d .states) t out)) (cut afterCmd4 (framedBy (d .receiver)) a b (k .made .header) h)
       ∙ shown-by (d .states) (length a) t (t .complete)
-      ∙ ap (λ (r : After). shifted (length a) (shown r)) (sym (not-refused (deviceAfter d a) b out (ready-waiting d a k h) l))
+      ∙ ap (λ (r : After). shifted (length a) (shown r)) (sym (not-refused (deviceAfter d a) b out (ready-waiting d a k h .rule) l))
 
   behind-call : (d : Device) (a b : List ℕ) → Ready d → missing (framedBy (d .receiver)) a ≤ length a → serves out d (a ++ b) ≡ serves out d a
   behind-call d a b k h =
-      ap shown (not-refused d (a ++ b) out k l)
+      ap shown (not-refused d (a ++ b) out (k .rule) l)
       ∙ ap (λ (t : Received). shown (ended (d .states) t out)) (behind afterCmd4 (framedBy (d .receiver)) a b (k .made .header) h)
-      ∙ sym (ap shown (not-refused d a out k l))
+      ∙ sym (ap shown (not-refused d a out (k .rule) l))
 
   no-bytes : (d : Device) → Ready d → serves out d [] ≡ record { taken = 0; gives = none; state = d }
   no-bytes d k =
