@@ -1,6 +1,6 @@
 -- The receiver: the packet layer's, with the ID as its hold and the checksum from the first byte after CMD4 on. A receiver of any field values is answered.
-use mathlib.Core.List.{List}
 use Prim.Native.Nat.{ℕ}
+use mathlib.Core.List.{List}
 use lib.ListN.{replicate}
 use Rattle.packet.specs.Receiver.{Receiver as PacketReceiver, Received, receiving as packetReceiving}
 use Rattle.dlpc200.specs.Packet.{afterCmd4}
@@ -18,6 +18,6 @@ framedBy r = record { header = r .header; running = r .sum; received = r .receiv
 abbrev pub receiverOf : PacketReceiver → Receiver
 receiverOf q = record { header = q .header; id = q .hold; sum = q .running; received = q .received }
 
--- one call: it takes bytes until the input ends or one packet is complete
+-- one call: it takes bytes until the input ends or one packet is complete. The sum is of everything after CMD4 and begins anew with the first byte of that.
 abbrev pub receiving : Receiver → List ℕ → Received
 receiving r b = packetReceiving afterCmd4 (framedBy r) b

@@ -74,10 +74,10 @@ pub extern "C" fn dlpc200_step(device: Device, input: &[u8], out: &mut [u8]) -> 
 {
     let s = crate::endpoint::receive(device, input, out);
     let after = s.device;
-    let a = s.answer;
+    let answer = s.answer;
     Stepped {
         device: after,
-        reply: as_reply(a),
+        reply: as_reply(answer),
     }
 }
 
