@@ -3,6 +3,6 @@ use Rattle.dlpc200.specs.Endpoint.{Outcome, Refuses, Waits, Answers}
 use Rattle.dlpc200.specs.declared.exports.Reply.{Reply}
 
 abbrev pub replyOf : Outcome → Reply
-replyOf (Waits n) = record { kind = 0; number = 0; taken = n; length = 0 }
-replyOf (Answers n m) = record { kind = 1; number = 0; taken = n; length = m }
-replyOf (Refuses n) = record { kind = 2; number = n; taken = 0; length = 0 }
+replyOf (Waits n) = record { kind = 0; number = 0; taken = n; size = 0 }
+replyOf (Answers n m) = record { kind = 1; number = 0; taken = n; size = m }
+replyOf (Refuses n) = record { kind = 2; number = n; taken = 0; size = 0 }

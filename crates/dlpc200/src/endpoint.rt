@@ -9,6 +9,7 @@ ghost use mathlib.Core.Path.{_≡_};
 ghost use Prim.Native.Nat.{_≤_};
 ghost use lib.ListN.{length};
 ghost use Rattle.dlpc200.specs.Endpoint.{answered, outcomeOf, receiveCall};
+ghost use Rattle.dlpc200.specs.Inner.{receivedBy};
 
 // An output shorter than this is refused.
 const OUTPUT: usize = 64;
@@ -39,9 +40,9 @@ pub struct Step {
 // A packet that is complete, as the receiver took it: it is judged and answered.
 fn complete(s: States, t: Received, out: &mut [u8]) -> Step
     requires { ⌜ 64 ≤ length (now out) ⌝ }
-    ensures { λ r. ⌜ (outcomeOf (r .answer) ≡ answered s t (now (out .entry)) .answer)
-        × (r .device ≡ answered s t (now (out .entry)) .device)
-        × (now (out .exit) ≡ answered s t (now (out .entry)) .output) ⌝ }
+    ensures { λ r. ⌜ (outcomeOf (r .answer) ≡ answered s (receivedBy t) (now (out .entry)) .answer)
+        × (r .device ≡ answered s (receivedBy t) (now (out .entry)) .device)
+        × (now (out .exit) ≡ answered s (receivedBy t) (now (out .entry)) .output) ⌝ }
 {
     let receiver = t.receiver;
     let header = receiver.header;
