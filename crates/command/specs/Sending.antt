@@ -3,25 +3,14 @@ use Prim.Native.Nat.{ℕ, _+_, _≤_}
 use mathlib.Core.Path.{_≡_}
 use mathlib.Core.Bool.{true}
 use mathlib.Core.List.{List}
-use mathlib.Core.Option.{Option, none, some}
-use lib.ListN.{length, take}
-use Rattle.packet.specs.Answer.{Outcome, Refuses, Waits, Answers}
+use lib.ListN.{length}
+use Rattle.packet.specs.Answer.{takenOf, responseOf}
 use Rattle.packet.specs.Calls.{Call, Served, served, joined}
 use Rattle.command.specs.Controller.{inRule}
 use Rattle.command.specs.Endpoint.{After, receiveCall}
 use Rattle.command.specs.declared.controller.Controller.{Controller}
 
 -- what a receive call shows: how many bytes it took, and the response at the output's start
-abbrev pub takenOf : Outcome → ℕ
-takenOf (Refuses n) = 0
-takenOf (Waits n) = n
-takenOf (Answers n m) = n
-
-abbrev pub responseOf : Outcome → List ℕ → Option (List ℕ)
-responseOf (Refuses n) out = none
-responseOf (Waits n) out = none
-responseOf (Answers n m) out = some (take m out)
-
 abbrev pub shown : After → Call Controller (List ℕ)
 shown r = record { taken = takenOf (r .answer); gives = responseOf (r .answer) (r .output); state = r .controller }
 

@@ -2,10 +2,10 @@
 use Prim.Native.Nat.{ℕ, _+_, _<_, _≤_}
 use mathlib.Core.Bool.{true, cond}
 use mathlib.Core.List.{List}
-use mathlib.Core.Option.{Option, none, some}
 use mathlib.Core.Path.{_≡_}
 use lib.Dec.{ltb}
-use lib.ListN.{length, take}
+use lib.ListN.{length}
+use Rattle.packet.specs.Answer.{Outcome, Refuses, Waits, Answers, takenOf, responseOf}
 use Rattle.packet.specs.Calls.{Call}
 use Rattle.packet.specs.Writer.{written}
 use Rattle.packet.specs.Receiver.{Received}
@@ -16,21 +16,7 @@ use Rattle.dlpc200.specs.Response.{response}
 use Rattle.dlpc200.specs.declared.judgement.Judgement.{Judgement}
 use Rattle.dlpc200.specs.declared.states.States.{States}
 use Rattle.dlpc200.specs.declared.device.Device.{Device}
-use Rattle.dlpc200.specs.declared.endpoint.Answer.{Answer}
-use Rattle.dlpc200.specs.declared.endpoint.Answer.the-variants.{Waiting, Answered, ShortOutput, OutOfRule}
 use Rattle.dlpc200.specs.Device.{inRule}
-
--- What a call answers, in document 01's numbers: a refusal's number; "waiting" and the bytes taken; "answered", the bytes taken and the response's length.
-pub data Outcome : Type 0 where
-  Refuses : ℕ → Outcome
-  Waits : ℕ → Outcome
-  Answers : ℕ → ℕ → Outcome
-
-abbrev pub outcomeOf : Answer → Outcome
-outcomeOf ShortOutput = Refuses 1
-outcomeOf OutOfRule = Refuses 3
-outcomeOf (Waiting n) = Waits n
-outcomeOf (Answered n m) = Answers n m
 
 -- the complete packet, how it is judged, and the response to it
 abbrev pub arrivedIn : Received → Arrived
@@ -76,18 +62,8 @@ receiveCall d input out =
 
 -- A stream handed over call after call (the packet layer's `served`): what a call shows are the bytes taken and, where a packet is complete, the response at the output's start.
 
-abbrev pub takenOf : Outcome → ℕ
-takenOf (Refuses n) = 0
-takenOf (Waits n) = n
-takenOf (Answers n m) = n
-
-abbrev pub givenBy : Outcome → List ℕ → Option (List ℕ)
-givenBy (Refuses n) out = none
-givenBy (Waits n) out = none
-givenBy (Answers n m) out = some (take m out)
-
 abbrev pub shown : After → Call Device (List ℕ)
-shown r = record { taken = takenOf (r .answer); gives = givenBy (r .answer) (r .output); state = r .device }
+shown r = record { taken = takenOf (r .answer); gives = responseOf (r .answer) (r .output); state = r .device }
 
 -- the receive call with this output lent
 abbrev pub serves : List ℕ → Device → List ℕ → Call Device (List ℕ)

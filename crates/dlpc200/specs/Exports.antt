@@ -1,5 +1,5 @@
 -- An answer as numbers: kind 0 is "waiting", 1 "answered" and 2 a refusal; what a kind has no use for is 0.
-use Rattle.dlpc200.specs.Endpoint.{Outcome, Refuses, Waits, Answers}
+use Rattle.packet.specs.Answer.{Outcome, Refuses, Waits, Answers}
 use Rattle.dlpc200.specs.declared.exports.Reply.{Reply}
 
 abbrev pub replyOf : Outcome → Reply

@@ -5,31 +5,16 @@ use crate::judgement::states_after;
 use crate::receiver::Received;
 use crate::response::respond;
 use crate::states::States;
+use packet::Answer;
 ghost use mathlib.Core.Path.{_≡_};
 ghost use Prim.Native.Nat.{_≤_};
 ghost use lib.ListN.{length};
-ghost use Rattle.dlpc200.specs.Endpoint.{answered, outcomeOf, receiveCall};
+ghost use Rattle.packet.specs.Answer.{outcomeOf};
+ghost use Rattle.dlpc200.specs.Endpoint.{answered, receiveCall};
 ghost use Rattle.dlpc200.specs.Inner.{receivedBy};
 
 // An output shorter than this is refused.
 const OUTPUT: usize = 64;
-
-// What a call answers.
-pub enum Answer {
-    // The input ended before a packet did; all of it was taken.
-    Waiting(usize),
-    // One packet is complete.
-    Answered {
-        // How many bytes of the input were taken.
-        taken: usize,
-        // How long the response is that stands at the output's start.
-        length: usize,
-    },
-    // Refusal 1: the output is shorter than 64 bytes.
-    ShortOutput,
-    // Refusal 3: a state is out of range, or the half-received packet has all its bytes.
-    OutOfRule,
-}
 
 // An answer, and the device afterwards.
 pub struct Step {

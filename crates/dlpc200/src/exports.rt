@@ -1,10 +1,11 @@
 // The calls for C and Rust. An enum does not cross, so an answer is told as numbers.
 use crate::device::Device;
-use crate::endpoint::Answer;
 use crate::states::States;
+use packet::Answer;
 ghost use mathlib.Core.Path.{_≡_};
 ghost use Rattle.dlpc200.specs.Device.{deviceWith};
-ghost use Rattle.dlpc200.specs.Endpoint.{outcomeOf, receiveCall};
+ghost use Rattle.packet.specs.Answer.{outcomeOf};
+ghost use Rattle.dlpc200.specs.Endpoint.{receiveCall};
 ghost use Rattle.dlpc200.specs.Status.{faultBits};
 ghost use Rattle.dlpc200.specs.Exports.{replyOf};
 

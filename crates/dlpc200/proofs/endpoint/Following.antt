@@ -25,7 +25,8 @@ use Rattle.dlpc200.specs.Judgement.{commandIn, arrivedBy, arrived, judge
 use Rattle.dlpc200.specs.Response.{response}
 use Rattle.dlpc200.specs.declared.states.States.{States}
 use Rattle.dlpc200.specs.Playing.{judged, answerTo, next, responses, after}
-use Rattle.dlpc200.specs.Endpoint.{Waits, arrivedIn, judgedIn, responseIn, After, answered, ended, receiveCall, shown, serves, Boundary}
+use Rattle.packet.specs.Answer.{Waits}
+use Rattle.dlpc200.specs.Endpoint.{arrivedIn, judgedIn, responseIn, After, answered, ended, receiveCall, shown, serves, Boundary}
 use Rattle.dlpc200.specs.declared.device.Device.{Device}
 use Rattle.dlpc200.proofs.endpoint.Laws.{Made, Ready, deviceAfter, not-refused, stays-in-rule, endpoint-streams, cut-anywhere}
 

@@ -20,7 +20,8 @@ use Rattle.dlpc200.specs.Receiver.{framedBy, receiverOf, receiving}
 use Rattle.dlpc200.specs.States.{inRange}
 use Rattle.dlpc200.specs.declared.states.States.{States}
 use Rattle.dlpc200.proofs.judgement.Laws.{in-range-kept}
-use Rattle.dlpc200.specs.Endpoint.{Waits, judgedIn, responseIn, After, refused, waiting, answered, ended, receiveCall, shown, serves, withSum, SumBegins}
+use Rattle.packet.specs.Answer.{Waits}
+use Rattle.dlpc200.specs.Endpoint.{judgedIn, responseIn, After, refused, waiting, answered, ended, receiveCall, shown, serves, withSum, SumBegins}
 use Rattle.dlpc200.specs.Device.{inRule}
 use Rattle.dlpc200.specs.declared.device.Device.{Device}
 
