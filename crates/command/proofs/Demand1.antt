@@ -12,6 +12,7 @@ use borrow.Author.Tests.{ne-eqb, eqb-false}
 use Rattle.packet.specs.Packet.{packetOf, error, whole, writeResponse, readResponse, typeOf, payloadLength, rightSum, checksum, header, sealed}
 use Rattle.packet.specs.Answer.{Refuses, Waits, Answers}
 use Rattle.packet.specs.Receiver.{Received}
+use Rattle.packet.specs.Stream.{packets}
 use Rattle.packet.specs.Writer.{written}
 use Rattle.packet.specs.Number.{bytesOf}
 use Rattle.packet.proofs.Cases.{cond-cases}
@@ -24,6 +25,7 @@ use Rattle.command.specs.Response.{responseType, codesIn, response}
 use Rattle.command.specs.Player.{State, from, judged, next, judgements, after}
 use Rattle.command.specs.Controller.{stateOf, transferStateAfter, inRule}
 use Rattle.command.specs.Endpoint.{takenBy, arrivedIn, judgedIn, responseIn, After, answered, receiveCall}
+use Rattle.command.specs.Sending.{Sending, sentTo, Boundary}
 use Rattle.command.specs.Demand1.{DrawsOn, errorPacket, ErrorSent, acceptedWrites, storeAll, AllBad, NoPacket, BadPacket, Demand1}
 use Rattle.command.specs.declared.settings.Settings.{Settings}
 use Rattle.command.specs.declared.judgement.Judgement.{Judgement}
@@ -31,6 +33,7 @@ use Rattle.command.specs.declared.judgement.Judgement.the-variants.{Erro
 use Rattle.command.specs.declared.transfer.TransferState.{TransferState}
 use Rattle.command.specs.declared.controller.Controller.{Controller}
 use Rattle.command.proofs.judgement.Called.{IsError, exactly-called}
+use Rattle.command.proofs.endpoint.Boundary.{follows-played}
 use Rattle.command.proofs.Refusals.{receive-refuses, encode-refuses, list-refuses}
 
 -- The bytes of the response.
@@ -183,7 +186,7 @@ store-first (Hold c) js s = refl
 store-first (Write v) js s = refl
 store-first (Read c) js s = refl
 
-pub stream-stores : (a : State) (qs : List (List ℕ)) → after a qs .settings ≡ storeAll (acceptedWrites (judgements a qs)) (a .settings)
+stream-stores : (a : State) (qs : List (List ℕ)) → after a qs .settings ≡ storeAll (acceptedWrites (judgements a qs)) (a .settings)
 unfolding after judgements next
 stream-stores a [] = unfold storeAll acceptedWrites in refl
 stream-stores a (q ∷ qs) = stream-stores (next a q) qs ∙ sym (store-first (judged a q) (judgements (next a q) qs) (a .settings))
@@ -193,6 +196,10 @@ bad-stream : {a : State} {qs : List (List ℕ)} → AllBad a qs → after a qs .
 unfolding after
 bad-stream NoPacket = refl
 bad-stream {a} (BadPacket {q = q} codes d r) = bad-stream r ∙ ap (λ (x : State). x .settings) (bad-leaves a q codes d)
+
+-- so it is on the head to which they are sent
+sent-settings : (c : Controller) (b : List ℕ) (s : Sending b) → Boundary c → sentTo c s .state .registers .settings ≡ after (stateOf c) (packets b) .settings
+sent-settings c b s k = ap (λ (a : State). a .settings) (follows-played c b s k .ends)
 
 -- Demand 1, whole.
 pub demand1 : Demand1
@@ -204,8 +211,8 @@ demand1 =
       leaves = bad-leaves;
       sent = error-sent;
       owed = error-owed;
-      stream = stream-stores;
-      badStream = λ a qs b. bad-stream b;
+      stream = λ c b s k. sent-settings c b s k ∙ stream-stores (stateOf c) (packets b);
+      badStream = λ c b s k d. sent-settings c b s k ∙ bad-stream d;
       receive = receive-refuses;
       encode = λ v out. encode-refuses out v;
       list = λ s out. list-refuses out s;

@@ -9,6 +9,7 @@ use mathlib.Core.List.{List, [], _∷_, _++_, List·Memᴰ}
 use lib.ListN.{length, take, getD}
 use Rattle.packet.specs.Answer.{Refuses, Waits, Answers}
 use Rattle.packet.specs.Packet.{typeOf, cmd1Of, cmd2Of, payloadLength, checksum, packetOf, error, hostWrite, hostRead, writeResponse, readResponse, whole, beginning, intermediate, last}
+use Rattle.packet.specs.Stream.{packets}
 use Rattle.packet.specs.Writer.{written}
 use Rattle.command.specs.Table.{cmd1For, cmd2For, layout, sizeOf}
 use Rattle.command.specs.Settings.{valuesOf, store}
@@ -18,11 +19,12 @@ use Rattle.command.specs.Value.{commandIn, valuesIn}
 use Rattle.command.specs.Transfer.{Transfer, Closed, Opened, held}
 use Rattle.command.specs.Faults.{Arrived, arrived}
 use Rattle.command.specs.Response.{response}
-use Rattle.command.specs.Player.{State, from, judged, next, judgements, after}
+use Rattle.command.specs.Player.{State, from, judged, next, judgements}
 use Rattle.command.specs.Controller.{stateOf}
 use Rattle.command.specs.Endpoint.{takenBy, arrivedIn, responseIn, receiveCall}
 use Rattle.command.specs.Encoder.{encoded, standardList, encodeCall, listCall}
 use Rattle.command.specs.Encoder as encoder
+use Rattle.command.specs.Sending.{Sending, sentTo, Boundary}
 use Rattle.command.specs.declared.table.Command.{Command}
 use Rattle.command.specs.declared.table.Command.the-variants.{SequenceRun}
 use Rattle.command.specs.declared.settings.Settings.{Settings}
@@ -191,10 +193,12 @@ pub record Demand1 : Type 0 where
   pub owed : (c : Controller) (input out codes : List ℕ) (n m : ℕ) → receiveCall c input out .answer ≡ Answers n m
       → DrawsOn (stateOf c) (arrivedIn (takenBy c input)) codes
       → take m (receiveCall c input out .output) ≡ errorPacket (arrivedIn (takenBy c input)) codes
-  -- over whole streams the settings are the accepted writes alone, stored one after the other,
-  pub stream : (a : State) (qs : List (List ℕ)) → after a qs .settings ≡ storeAll (acceptedWrites (judgements a qs)) (a .settings)
+  -- over whole streams, sent to a head in rule at a packet boundary however they were cut, the settings are the accepted writes alone, stored one after the other,
+  pub stream : (c : Controller) (b : List ℕ) (s : Sending b) → Boundary c
+      → sentTo c s .state .registers .settings ≡ storeAll (acceptedWrites (judgements (stateOf c) (packets b))) (c .registers .settings)
   -- and packets that are all bad leave all settings as they stood
-  pub badStream : (a : State) (qs : List (List ℕ)) → AllBad a qs → after a qs .settings ≡ a .settings
+  pub badStream : (c : Controller) (b : List ℕ) (s : Sending b) → Boundary c → AllBad (stateOf c) (packets b)
+      → sentTo c s .state .registers .settings ≡ c .registers .settings
   -- "Every call answers"; "a bad call gets its refusal number and touches nothing lent". The receive call: 1 and 3; else "waiting", all bytes taken, or "answered"
   pub receive : (c : Controller) (input out : List ℕ)
       → let r = receiveCall c input out in
