@@ -96,9 +96,9 @@ abbrev pub Ascending : ℕ → List ℕ → Type 0
 Ascending n [] = Unit {0}
 Ascending n (x ∷ xs) = (n < x) × Ascending x xs
 
--- The packet p calls for an error packet with these codes.
+-- The faults of the packet p call for an error packet with these codes.
 pub data Draws (mode : ℕ) (t : Transfer) (p : Arrived) : List ℕ → Type 0 where
-  -- First group, every one that holds is reported: one byte for each code, ascending, none twice.
+  -- First group, every one that holds is reported (`List·Memᴰ n codes`: n is one of the codes): one byte for each code, ascending, none twice.
   FirstGroup : (codes : List ℕ) → (codes ≡ [] → ⊥) → Ascending 0 codes → ((n : ℕ) → List·Memᴰ n codes ↔ FirstFault t p n) → Draws mode t p codes
   -- Only with none of these, and only for flags 00 or 03.
   Alone : (n : ℕ) → ((k : ℕ) → FirstFault t p k → ⊥) → Completes (p .flags) → LaterFault mode t p n → Draws mode t p (n ∷ [])
@@ -162,11 +162,11 @@ pub data OutOfRule (c : Controller) : Type 0 where
   -- or a half-received packet that already has all its bytes
   HasAllBytes : 7 + payloadLength (c .registers .header) ≤ c .registers .received → OutOfRule c
 
--- How a call answers, `Refused n` being that it answers refusal n. Tested in the order of the table:
+-- How a call answers that is lent the output `out`; `Refused n` says that it answers refusal n. In the order of the table:
 pub record Answering (Refused : ℕ → Type 0) (out : List ℕ) (shortest second : ℕ) (Holds Untouched Answered : Type 0) : Type 0 where
   -- 1 exactly when the output is shorter than this
   pub short : Refused 1 ↔ (length out < shortest)
-  -- the second number exactly when it is not and this holds
+  -- its second number exactly when it is not shorter and `Holds`
   pub other : Refused second ↔ ((shortest ≤ length out) × Holds)
   -- no other number
   pub only : (n : ℕ) → Refused n → (n ≡ 1) ⊎ (n ≡ second)

@@ -89,41 +89,20 @@ unfolding listIf
 listed-cases true m n l f g h = ⊎-elim (λ e. f refl e) g (List·Memᴰ·cases-cons h)
 listed-cases false m n l f g h = g h
 
--- a code has this number, and its fault holds
+-- a test of the first group holds, and its code has this number
 data Held (k : Codes) : ℕ → Type 0 where
   Code02 : k .command ≡ true → Held k 0x02
-  Code03 : k .parameter ≡ true → Held k 0x03
   Code04 : k .memory ≡ true → Held k 0x04
-  Code07 : k .precondition ≡ true → Held k 0x07
   Code09 : k .checksum ≡ true → Held k 0x09
-  Code0A : k .format ≡ true → Held k 0x0A
   Code0B : k .continuation ≡ true → Held k 0x0B
-
-listed-held : (k : Codes) (n : ℕ) → List·Memᴰ n (codesOf k) → Held k n
-unfolding codesOf
-listed-held k n =
-    listed-cases (k .command) 2 n _ (λ t e. rw e (Code02 t))
-    (listed-cases (k .parameter) 3 n _ (λ t e. rw e (Code03 t))
-    (listed-cases (k .memory) 4 n _ (λ t e. rw e (Code04 t))
-    (listed-cases (k .precondition) 7 n _ (λ t e. rw e (Code07 t))
-    (listed-cases (k .checksum) 9 n _ (λ t e. rw e (Code09 t))
-    (listed-cases (k .format) 10 n _ (λ t e. rw e (Code0A t))
-    (listed-cases (k .continuation) 11 n [] (λ t e. rw e (Code0B t)) (λ h. absurd (List·Memᴰ·not-nil h))))))))
 
 held-listed : (k : Codes) (n : ℕ) → Held k n → List·Memᴰ n (codesOf k)
 unfolding codesOf
 held-listed k n (Code02 h) = listed-here (k .command) 2 _ h
-held-listed k n (Code03 h) = listed-later (k .command) 2 3 _ (listed-here (k .parameter) 3 _ h)
 held-listed k n (Code04 h) = listed-later (k .command) 2 4 _ (listed-later (k .parameter) 3 4 _ (listed-here (k .memory) 4 _ h))
-held-listed k n (Code07 h) =
-    listed-later (k .command) 2 7 _ (listed-later (k .parameter) 3 7 _ (listed-later (k .memory) 4 7 _ (listed-here (k .precondition) 7 _ h)))
 held-listed k n (Code09 h) =
     listed-later (k .command) 2 9 _
     (listed-later (k .parameter) 3 9 _ (listed-later (k .memory) 4 9 _ (listed-later (k .precondition) 7 9 _ (listed-here (k .checksum) 9 _ h))))
-held-listed k n (Code0A h) =
-    listed-later (k .command) 2 10 _
-    (listed-later (k .parameter) 3 10 _
-    (listed-later (k .memory) 4 10 _ (listed-later (k .precondition) 7 10 _ (listed-later (k .checksum) 9 10 _ (listed-here (k .format) 10 _ h)))))
 held-listed k n (Code0B h) =
     listed-later (k .command) 2 11 _
     (listed-later (k .parameter) 3 11 _
@@ -238,14 +217,22 @@ module _ (t : Transfer) (p : Arrived) where
   abbrev pub firstGroup : Codes
   firstGroup = faults (commandOf (p .cmd1) (p .cmd2)) t p
 
+  listed-held : (n : ℕ) → List·Memᴰ n (codesOf firstGroup) → Held firstGroup n
+  unfolding codesOf faults faultsOf
+  listed-held n =
+      listed-cases (firstGroup .command) 2 n _ (λ t e. rw e (Code02 t))
+      (listed-cases false 3 n _ (λ t e. never t)
+      (listed-cases (firstGroup .memory) 4 n _ (λ t e. rw e (Code04 t))
+      (listed-cases false 7 n _ (λ t e. never t)
+      (listed-cases (firstGroup .checksum) 9 n _ (λ t e. rw e (Code09 t))
+      (listed-cases false 10 n _ (λ t e. never t)
+      (listed-cases (firstGroup .continuation) 11 n [] (λ t e. rw e (Code0B t)) (λ h. absurd (List·Memᴰ·not-nil h))))))))
+
   held-fault : (n : ℕ) → Held firstGroup n → FirstFault t p n
   unfolding faults faultsOf
   held-fault n (Code02 h) = command-fault (commandOf (p .cmd1) (p .cmd2)) refl h
-  held-fault n (Code03 h) = never h
   held-fault n (Code04 h) = memory-fault h
-  held-fault n (Code07 h) = never h
   held-fault n (Code09 h) = WrongChecksum (not-true (p .right) h)
-  held-fault n (Code0A h) = never h
   held-fault n (Code0B h) = order-fault h
 
   fault-held : (n : ℕ) → FirstFault t p n → Held firstGroup n
@@ -268,13 +255,10 @@ module _ (t : Transfer) (p : Arrived) where
 
   -- one of them holds exactly when the first group has one
   held-any : (n : ℕ) → Held firstGroup n → anyFault firstGroup ≡ true
-  unfolding anyFault faults faultsOf
+  unfolding anyFault
   held-any n (Code02 h) = rw h
-  held-any n (Code03 h) = never h
   held-any n (Code04 h) = rw (h, or-true)
-  held-any n (Code07 h) = never h
   held-any n (Code09 h) = rw (h, or-true)
-  held-any n (Code0A h) = never h
   held-any n (Code0B h) = rw (h, or-true)
 
   any-held : {P : Type 0} → ((n : ℕ) → Held firstGroup n → P) → anyFault firstGroup ≡ true → P
@@ -297,7 +281,7 @@ module _ (t : Transfer) (p : Arrived) where
 
   -- the codes listed are those of the first group's faults
   pub codes-exactly : (n : ℕ) → List·Memᴰ n (codesOf firstGroup) ↔ FirstFault t p n
-  codes-exactly n = (λ m. held-fault n (listed-held firstGroup n m), λ f. held-listed firstGroup n (fault-held n f))
+  codes-exactly n = (λ m. held-fault n (listed-held n m), λ f. held-listed firstGroup n (fault-held n f))
 
   pub codes-some : anyFault firstGroup ≡ true → codesOf firstGroup ≡ [] → ⊥
   codes-some h e = any-held (λ n k. List·Memᴰ·not-nil (subst (List·Memᴰ n) e (held-listed firstGroup n k))) h
