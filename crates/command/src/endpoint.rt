@@ -12,7 +12,7 @@ use crate::transfer::HOLD;
 use packet::Answer;
 ghost use mathlib.Core.Path.{_≡_};
 ghost use mathlib.Core.Bool.{true};
-ghost use Prim.Native.Nat.{_≤_};
+ghost use Prim.Native.Nat.{_≤_, min};
 ghost use lib.ListN.{length};
 ghost use Rattle.packet.specs.Answer.{outcomeOf};
 ghost use Rattle.command.specs.Controller.{transferInRule, registersInRule};
@@ -23,6 +23,16 @@ ghost use Rattle.command.specs.Endpoint.{receiveCall};
 pub(crate) struct Served {
     pub registers: Registers,
     pub answer: Answer,
+}
+
+// How many bytes of a payload of this length are in the hold.
+fn kept(size: usize) -> usize
+    ensures { λ n. ⌜ n ≡ min size 1024 ⌝ }
+{
+    if HOLD < size {
+        return HOLD;
+    }
+    size
 }
 
 // A complete packet is judged, the judgement carried out and the response written.
@@ -40,12 +50,8 @@ fn settle(
         × (now (out .exit) ≡ settled (controllerOf r (now (buffer .entry)) (now (hold .entry))) right taken (now (out .entry)) .output) ⌝ }
 {
     let header = r.header;
-    // A payload over 1,024 bytes is a fault, and no more than these are there.
-    let mut size = packet::word(header[4], header[5]);
-    if HOLD < size {
-        size = HOLD;
-    }
-    let payload = &hold[..size];
+    let n = kept(packet::word(header[4], header[5]));
+    let payload = &hold[..n];
     let j = judge(r.settings.mode, r.transfer, header, right, buffer, payload);
     let length = respond(out, r.settings, header[1], header[2], j);
     r.settings = settings_after(r.settings, j);

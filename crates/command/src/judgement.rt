@@ -71,13 +71,13 @@ fn judge_data(
 {
     let kind = header[0];
     let flags = header[3];
-    if (flags != packet::WHOLE) & (flags != packet::LAST) {
-        return Judgement::Hold(c);
+    if (flags == packet::WHOLE) | (flags == packet::LAST) {
+        if kind == packet::HOST_READ {
+            return judge_read(c, held.len() + payload.len());
+        }
+        return judge_write(c, mode, held, payload);
     }
-    if kind == packet::HOST_READ {
-        return judge_read(c, held.len() + payload.len());
-    }
-    judge_write(c, mode, held, payload)
+    Judgement::Hold(c)
 }
 
 // A complete packet: its header, whether its checksum was right, and its payload. `buffer` begins with

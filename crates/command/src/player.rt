@@ -12,6 +12,7 @@ use packet::Next;
 use packet::next_packet;
 ghost use mathlib.Core.Path.{_≡_};
 ghost use mathlib.Core.Bool.{true};
+ghost use Prim.Native.Nat.{_≤_};
 ghost use lib.ListN.{length};
 ghost use Rattle.packet.specs.Packet.{rightSum};
 ghost use Rattle.packet.specs.Stream.{size};
@@ -35,7 +36,7 @@ fn play_packet(
     p: &[u8],
     right: bool,
 ) -> Turn
-    requires { ⌜ (transferInRule t ≡ true) × (size (now p) ≡ length (now p)) × (right ≡ rightSum (now p)) ⌝ }
+    requires { ⌜ (7 ≤ length (now p)) × (length (now p) ≤ 65542) × (size (now p) ≡ length (now p)) × (right ≡ rightSum (now p)) × (transferInRule t ≡ true) ⌝ }
     ensures { λ r. ⌜ (stateIn (r .settings) (r .transfer) (now (buffer .exit)) ≡ next (stateIn s t (now (buffer .entry))) (now (p .entry)))
         × (r .acknowledged ≡ acknowledgedOf (judged (stateIn s t (now (buffer .entry))) (now (p .entry))))
         × (transferInRule (r .transfer) ≡ true) ⌝ }

@@ -27,6 +27,11 @@ pub bytes-at : (b : List ℕ) → ((i : ℕ) → getD b i 0 < 256) → Bytes b
 bytes-at [] h = tt
 bytes-at (x ∷ b) h = (h 0, bytes-at b (λ i. h (suc i)))
 
+pub byte-get : (b : List ℕ) (i : ℕ) → Bytes b → getD b i 0 < 256
+byte-get [] i h = omega arith
+byte-get (x ∷ b) zero h = h .0
+byte-get (x ∷ b) (suc i) h = byte-get b i (h .1)
+
 pub value-bytes : (w v : ℕ) → v < 256 ^ w → valueOf (bytesOf w v) ≡ v
 unfolding valueOf bytesOf
 value-bytes zero v h = omega arith

@@ -1,7 +1,7 @@
 -- Laws of framing: the packets of a list of bytes.
 use Prim.Native.Nat.{ℕ, zero, suc, _+_, _*_, _-_, _<_, _≤_}
 use mathlib.Core.Path.{_≡_, refl, ap, ap₂, sym, _∙_, subst}
-use mathlib.Core.Bool.{Bool, true, false, and-false}
+use mathlib.Core.Bool.{Bool, true, false, cond, and-false}
 use mathlib.Core.List.{List, [], _∷_, _++_, append-assoc}
 use native.Mathlib.Omega.{arith}
 use lib.Dec.{eqb, leb}
@@ -13,7 +13,7 @@ use Rattle.packet.specs.Packet.{payloadLength, checksum, rightSum}
 use Rattle.packet.specs.Stream.{nextIn, size, hasPacket, packetsIn, packets, bytesIn, rest}
 use Rattle.packet.specs.declared.stream.Next.the-variants.{Packet, Nothing}
 use Rattle.packet.proofs.Cases.{cond-cases, bool-cases, and-right, and-both}
-use Rattle.packet.proofs.number.Laws.{bytes-take, bytes-drop}
+use Rattle.packet.proofs.number.Laws.{bytes-take, bytes-drop, byte-get}
 
 -- p is one whole packet
 pub record IsPacket (p : List ℕ) : Type 0 where
@@ -161,6 +161,40 @@ packets-nil = refl
 pub rest-nil : rest [] ≡ []
 unfolding rest bytesIn packets packetsIn
 rest-nil = refl
+
+-- What next_packet tells: a whole packet, its size and whether its checksum is right, or none.
+
+pub next-some : (b : List ℕ) (n : ℕ) (right : Bool) → nextIn b ≡ Packet n right → (hasPacket b ≡ true) × (size b ≡ n) × (rightSum b ≡ right)
+unfolding nextIn
+next-some b n right = go (hasPacket b) refl
+  where
+    go : (h : Bool) → hasPacket b ≡ h → cond h (Packet (size b) (rightSum b)) Nothing ≡ Packet n right → (hasPacket b ≡ true) × (size b ≡ n) × (rightSum b ≡ right)
+    go true e q = (e, cc, cc)
+    go false e q = let z : _≡_ {A = ℕ} 0 1 = cc in absurd (omega arith)
+
+pub next-none : (b : List ℕ) → nextIn b ≡ Nothing → hasPacket b ≡ false
+unfolding nextIn
+next-none b = go (hasPacket b) refl
+  where
+    go : (h : Bool) → hasPacket b ≡ h → cond h (Packet (size b) (rightSum b)) Nothing ≡ Nothing → hasPacket b ≡ false
+    go true e q = let z : _≡_ {A = ℕ} 0 1 = cc in absurd (omega arith)
+    go false e q = e
+
+-- the checksum of the first packet of b is looked at in b
+pub right-front : (b : List ℕ) → hasPacket b ≡ true → rightSum (take (size b) b) ≡ rightSum b
+unfolding rightSum size
+right-front b h =
+    rw (
+      getD-take (7 + payloadLength b) b 4 0 (omega arith),
+      getD-take (7 + payloadLength b) b 5 0 (omega arith),
+      getD-take (7 + payloadLength b) b (6 + payloadLength b) 0 (omega arith),
+      take-take (6 + payloadLength b) (7 + payloadLength b) b (omega arith),
+    )
+
+-- "A packet is 7 to 65,542 bytes"
+pub size-most : (b : List ℕ) → Bytes b → size b ≤ 65542
+unfolding size
+size-most b h = omega (arith, byte-get b 4 h, byte-get b 5 h)
 
 -- The packet at a place of a buffer, n being what its length field says.
 module _ (b : List ℕ) (at : ℕ) where

@@ -7,9 +7,9 @@ use mathlib.Core.Bool.{true, false}
 use mathlib.Core.List.{List}
 use lib.ListN.{length}
 use Rattle.packet.specs.Receiver.{Received, receivedOf, receiving}
-use Rattle.command.specs.Controller.{heldIn, inRule}
+use Rattle.command.specs.Controller.{receiverIn, inRule}
 use Rattle.command.specs.Inner.{controllerOf, settled}
-use Rattle.command.specs.Endpoint.{judgedIn, responseIn, After, waiting, receiveCall}
+use Rattle.command.specs.Endpoint.{registersOf, judgedIn, responseIn, After, waiting, receiveCall}
 use Rattle.command.specs.declared.controller.Controller.{Controller}
 use Rattle.command.proofs.controller.Laws.{rule-parts}
 use borrow.Author.Needs.{needs}
@@ -23,60 +23,53 @@ module _
     (l : 64 ≤ length out)
     (r : inRule c ≡ true)
     {t : Received}
-    (e : t ≡ receiving (c .receiver) (heldIn (c .transfer)) input) where
+    (e : t ≡ receiving 0 (receiverIn c) input) where
   waits : t .complete ≡ false → receiveCall c input out ≡ waiting c t out
   unfolding receiveCall
   waits f = rw (le-ltb (length out) 64 l, r, ← e, f)
 
   answers : t .complete ≡ true
-      → receiveCall c input out ≡ settled (record { settings = c .settings; transfer = c .transfer; receiver = t .receiver }) (t .right) (t .taken) out
+      → receiveCall c input out
+      ≡ settled (controllerOf (registersOf (c .registers .settings) (c .registers .transfer) (t .receiver)) (c .buffer) (t .receiver .hold)) (t .right) (t .taken) out
   unfolding receiveCall responseIn judgedIn
   answers f = rw (le-ltb (length out) 64 l, r, ← e, f)
 
 -- where the function starts, seen from after the receiver's call
 abbrev start : tie.After-receive → tie.Start
-start t = t .before .before .before .before .before .before .before
+start t = t .before .before .before .before .before .before
 
 -- the controller as it came in
 abbrev came : tie.Start → Controller
-came s = controllerOf (s .args .p) (now (s .args .hold))
-
--- refusal 3 lets it pass
-passed : (s : tie.Start) → inRule (came s) ≡ true
-unfolding inRule
-passed s = s .pre .0
+came s = controllerOf (s .args .r) (now (s .args .buffer)) (now (s .args .hold))
 
 -- what the receiver took of the input
 took : (t : tie.After-receive)
-    → receivedOf (t .receive .result) (t .receive .last .0) (t .receive .last .1 .1 .1 .0)
-    ≡ receiving (came (start t) .receiver) (heldIn (start t .args .p .transfer)) (now (start t .args .input))
-took t =
-    t .receive .ensures
-    ∙ ap (λ (n : ℕ). receiving (came (start t) .receiver) n (now (start t .args .input))) (t .before .before .before .held .ensures)
+    → receivedOf (t .receive .result) (t .receive .last .0) (t .receive .last .1 .1 .1 .0) ≡ receiving 0 (receiverIn (came (start t))) (now (start t .args .input))
+took t = t .receive .ensures
 
 returns : tie.Need-returns
 returns c =
     let t = c .before .before in
     let s = start t in
-    let w = waits (came s) (now (s .args .input)) (now (s .args .out)) (s .pre .1) (passed s) (took t) (not-true (t .receive .result .complete) (c .if1 .taken)) in
+    let w = waits (came s) (now (s .args .input)) (now (s .args .out)) (s .pre .1) (s .pre .0) (took t) (not-true (t .receive .result .complete) (c .if1 .taken)) in
     (sym (ap (λ (x : After). x .answer) w), sym (ap (λ (x : After). x .controller) w), sym (ap (λ (x : After). x .output) w))
 
 settle-requires : tie.Need-settle-requires
 settle-requires c κs =
-    let t = c .before .before .before .before .before in
+    let t = c .before .before .before .before .before .before in
+    let s = start t in
     let n : length (t .receive .last .1 .1 .1 .0) ≡ 1024 = search needs in
-    (rule-parts (came (start t)) (passed (start t)) .transfer, n, search needs)
+    (rule-parts (s .args .r) (s .pre .0) .transfer, n, search needs)
 
 returns-2 : tie.Need-returns-2
 returns-2 c =
     let e = c .before .before .settle .ensures in
-    let k = c .before .before .before .before .before .before in
-    let t = k .before .before in
+    let t = c .before .before .before .before .before .before .before .before .before in
     let s = start t in
-    let w = answers (came s) (now (s .args .input)) (now (s .args .out)) (s .pre .1) (passed s) (took t) (not-false (t .receive .result .complete) (k .if1 .left)) in
+    let w = answers (came s) (now (s .args .input)) (now (s .args .out)) (s .pre .1) (s .pre .0) (took t) (not-false (t .receive .result .complete) (c .before .before .before .before .before .before .before .if1 .left)) in
     (e .0 ∙ sym (ap (λ (x : After). x .answer) w), e .1 ∙ sym (ap (λ (x : After). x .controller) w), e .2 ∙ sym (ap (λ (x : After). x .output) w))
 
 pub advance-spec : {M : Type 1} → statement M
 advance-spec =
-    tie.close (tie.spec
-    (λ c κs. search needs) (λ c κs. search needs) returns settle-requires (λ c. search needs) returns-2)
+    tie.close
+    (tie.spec (λ c κs. search needs) returns settle-requires (λ c. search needs) returns-2)

@@ -1,36 +1,72 @@
 -- `settle` meets its contract.
-use mathlib.Core.Path.{refl}
+use Prim.Native.Nat.{ℕ, _<_, _≤_, min}
+use mathlib.Core.List.{List}
+use mathlib.Core.Path.{_≡_, refl, sym, ap, _∙_}
 use native.Mathlib.Omega.{arith}
+use denote.Ref.{now}
+use lib.ListN.{length, take}
+use lib.Seq.{take-all, length-take-le}
 use borrow.Author.Needs.{needs}
+use Rattle.packet.specs.Packet.{payloadLength}
+use Rattle.packet.proofs.Cases.{lt-cases}
 use Rattle.command.specs.Response.{response}
 use Rattle.command.specs.Endpoint.{judgedIn, responseIn}
-use Rattle.command.proofs.transfer.Laws.{held-most}
 use Rattle.command.proofs.endpoint.settle.Statement.{statement}
 use Rattle.command.proofs.endpoint.settle.Tie as tie
 
-add-n : tie.Need-add-n
-add-n c =
-    let s = c .before .before .before .before .before .before .before .before .before .before in
-    omega (arith, c .word .ensures .1, c .before .held .ensures, held-most (s .args .p .transfer) (s .pre .0))
+-- the payload is what the hold has of it
+in-hold : (hold : List ℕ) (n m : ℕ) → length hold ≡ 1024 → n ≡ min m 1024 → take n hold ≡ take m hold
+in-hold hold n m l e =
+    lt-cases m 1024
+    (λ h. let f : n ≡ m = omega arith in ap (λ (i : ℕ). take i hold) f)
+    (λ h. take-all n hold (omega arith) ∙ sym (take-all m hold (omega arith)))
+
+counted : (c : tie.After-kept)
+    → let s = c .before .before .before .before .before in
+    (length (take (c .kept .result) (now (s .args .hold))) ≡ c .kept .result) × (c .kept .result ≤ 1024)
+counted c =
+    let s = c .before .before .before .before .before in
+    let n : c .kept .result ≤ 1024 = omega (arith, c .kept .ensures) in
+    (length-take-le (c .kept .result) (now (s .args .hold)) (omega (arith, s .pre .1)), n)
+
+slice-aggregate-payload : tie.Need-slice-aggregate-payload
+slice-aggregate-payload c = sym (counted (c .before) .0)
+
+judge-requires : tie.Need-judge-requires
+judge-requires c κs =
+    let k = c .before .before .before in
+    let s = k .before .before .before .before .before in
+    let n : length (now (s .args .buffer)) ≡ 1024 = search needs in
+    (s .pre .0, n, omega (arith, counted k .0, counted k .1))
+
+transfer-after-requires : tie.Need-transfer-after-requires
+transfer-after-requires c κs =
+    let k = c .before .before .before .before .before .before .before .before .before .before in
+    let s = k .before .before .before .before .before in
+    (s .pre .0, omega (arith, counted k .0, counted k .1))
 
 returns : tie.Need-returns
 unfolding responseIn judgedIn response
 returns c =
-    let h = c .before .before .before in
-    let e = h .before .before .before in
+    let e = c .before .before .before .before .before in
+    let k = e .before .before .before .before .before .before in
+    let s = k .before .before .before .before .before in
+    let h = now (s .args .hold) in
+    let w : take (k .kept .result) (now (s .args .hold)) ≡ take (payloadLength (s .args .r .header)) (now (s .args .hold)) =
+    in-hold (now (s .args .hold)) (k .kept .result) (payloadLength (s .args .r .header)) (s .pre .1) (rw (k .before .word .ensures .0) at (k .kept .ensures)) in
     rw (
       e .respond .ensures .0,
       e .respond .ensures .1,
-      c .before .settings-after .ensures,
-      c .transfer-after .ensures,
-      h .held .ensures,
-      c .before .before .word .ensures .0,
+      c .before .before .settings-after .ensures,
+      c .transfer-after .ensures .0,
+      c .transfer-after .ensures .1,
       e .before .before .judge .ensures,
+      w,
     ) (refl, refl, refl)
 
 pub settle-spec : {M : Type 1} → statement M
 settle-spec =
     tie.close
-    (tie.spec (λ c κs. search needs) (λ c. search needs) (λ c. search needs) (λ c κs. search needs) (λ c κs. search needs)
-    (λ c. search needs) (λ c. search needs) (λ c κs. search needs) add-n (λ c κs. search needs) (λ c κs. search needs)
+    (tie.spec (λ c. search needs) (λ c. search needs) (λ c κs. search needs) (λ c κs. search needs) slice-aggregate-payload
+    judge-requires (λ c. search needs) (λ c. search needs) (λ c κs. search needs) (λ c κs. search needs) transfer-after-requires
     (λ c. search needs) returns)

@@ -1,63 +1,70 @@
--- `judge` meets its contract: by the codes that were found, and with none by the bytes of the hold.
-use Prim.Native.Nat.{_+_, _≤_}
+-- `judge` meets its contract: by the codes that were found, and with none by the joined data.
+use Prim.Native.Nat.{_≤_}
 use mathlib.Core.Bool.{cond}
+use mathlib.Core.List.{_++_}
 use mathlib.Core.Path.{_≡_, sym, ap, _∙_}
 use native.Mathlib.Omega.{arith}
-use lib.ListN.{take}
+use lib.ListN.{length, take}
 use lib.Seq.{length-take-le}
 use borrow.Author.Needs.{needs}
 use denote.Ref.{now}
-use Rattle.packet.specs.Packet.{typeOf, flagsOf, payloadLength}
-use Rattle.command.specs.Faults.{anyFault}
+use Rattle.packet.specs.Packet.{typeOf, flagsOf}
 use Rattle.command.specs.Judgement.{judgeData, judge}
 use Rattle.command.specs.Controller.{heldIn, transferIn, packetIn}
 use Rattle.command.specs.declared.judgement.Judgement.the-variants.{Error}
-use Rattle.command.proofs.judgement.Laws.{judge-parts, judge-fits}
+use Rattle.command.proofs.transfer.Laws.{held-most}
+use Rattle.command.proofs.judgement.Laws.{judge-unknown, judge-known}
 use Rattle.command.proofs.judgement.judge.Statement.{statement}
 use Rattle.command.proofs.judgement.judge.Tie as tie
 
-judged : (c : tie.After-any)
-    → let a = c .before .before .before .before .args in
-    cond (c .any .result) (Error (c .before .faults .result))
-    (judgeData (c .before .before .find .result) (a .mode) (typeOf (a .t3)) (flagsOf (a .t3)) (take (heldIn (a .t) + payloadLength (a .t3)) (now (a .hold))))
-    ≡ judge (a .mode) (transferIn (a .t) (now (a .hold))) (packetIn (heldIn (a .t)) (a .t3) (a .right) (now (a .hold)))
-judged c =
-    let s = c .before .before .before .before in
-    let a = s .args in
-    rw (c .any .ensures, c .before .faults .ensures) (sym (judge-parts (a .mode) (a .t) (a .t3) (a .right) (now (a .hold)) (s .pre .0) (s .pre .1) _ (c .before .before .find .ensures)))
-
--- the held bytes and the payload fit the hold
-fits : (c : tie.Else1) → let a = c .before .before .before .before .before .args in heldIn (a .t) + payloadLength (a .t3) ≤ 1024
-fits c =
-    let f = c .before .before in
-    let s = f .before .before .before in
-    let a = s .args in
-    judge-fits (a .mode) (a .t) (a .t3) (a .right) (now (a .hold)) (s .pre .0) (s .pre .1) (f .before .find .result)
-    (ap anyFault (sym (f .faults .ensures)) ∙ sym (c .before .any .ensures) ∙ c .if1 .left)
-
+-- a command that is not in the table
 returns : tie.Need-returns
-returns c = rw (c .if1 .taken) at (judged (c .before))
+returns c =
+    let f = c .before .before in
+    let s = f .before .before .before .before in
+    let a = s .args in
+    ap Error (f .faults .ensures)
+    ∙ judge-unknown (a .mode) (a .t) (a .t3) (a .right) (now (a .buffer)) (now (a .payload)) (s .pre .0) (s .pre .1) _ (f .before .find .ensures) (c .enum-told .given .1)
 
-add-n : tie.Need-add-n
-add-n c = omega (arith, c .word .ensures .0, c .before .held .ensures, fits (c .before .before))
-
-slice-aggregate-judge-data : tie.Need-slice-aggregate-judge-data
-slice-aggregate-judge-data c =
-    let w = c .before in
-    let s = w .before .before .before .before .before .before .before in
-    sym
-    (length-take-le (w .before .held .result + w .word .result) (now (s .args .hold))
-    (omega (arith, w .word .ensures .0, w .before .held .ensures, fits (w .before .before), s .pre .1)))
+-- one that is, by the codes of the first group
+judged : (c : tie.After-first-group)
+    → let f = c .before .before .before .before in
+    let a = f .before .before .before .before .args in
+    cond (c .first-group .result) (Error (f .faults .result))
+    (judgeData (c .before .before .found .given .0 .0) (a .mode) (typeOf (a .t3)) (flagsOf (a .t3)) (take (heldIn (a .t)) (now (a .buffer)) ++ now (a .payload)))
+    ≡ judge (a .mode) (transferIn (a .t) (now (a .buffer))) (packetIn (a .t3) (a .right) (now (a .payload)))
+judged c =
+    let f = c .before .before .before .before in
+    let s = f .before .before .before .before in
+    let a = s .args in
+    rw (c .first-group .ensures, f .faults .ensures)
+    (judge-known (a .mode) (a .t) (a .t3) (a .right) (now (a .buffer)) (now (a .payload)) (s .pre .0) (s .pre .1) _ (f .before .find .ensures) _ (c .before .before .found .given .1))
 
 returns-2 : tie.Need-returns-2
-returns-2 c =
-    let w = c .before .before in
-    let e = w .before .before in
-    c .judge-data .ensures ∙ rw (w .before .held .ensures, w .word .ensures .0) (rw (e .if1 .left) at (judged (e .before)))
+returns-2 c = rw (c .if1 .taken) at (judged (c .before))
+
+-- as many bytes are held as are looked at
+counted : (c : tie.After-held) → let a = c .before .before .before .before .before .before .before .before .before .before .args in
+    (c .held .result ≤ 1024) × (length (take (c .held .result) (now (a .buffer))) ≡ c .held .result)
+counted c =
+    let s = c .before .before .before .before .before .before .before .before .before .before in
+    let n : c .held .result ≤ 1024 = omega (arith, c .held .ensures, held-most (s .args .t) (s .pre .0)) in
+    (n, length-take-le (c .held .result) (now (s .args .buffer)) (omega (arith, s .pre .1)))
+
+slice-aggregate-judge-data : tie.Need-slice-aggregate-judge-data
+slice-aggregate-judge-data c = sym (counted (c .before) .1)
+
+judge-data-requires : tie.Need-judge-data-requires
+judge-data-requires c κs =
+    let n = counted (c .before) in
+    (omega (arith, n .0, n .1), c .before .before .before .before .before .before .before .before .before .before .before .pre .2)
+
+returns-3 : tie.Need-returns-3
+returns-3 c =
+    let h = c .before .before in
+    c .judge-data .ensures ∙ rw (h .held .ensures) (rw (h .before .if1 .left) at (judged (h .before .before)))
 
 pub judge-spec : {M : Type 1} → statement M
 judge-spec =
     tie.close
-    (tie.spec (λ c. search needs) (λ c. search needs) (λ c κs. search needs) (λ c κs. search needs) (λ c κs. search needs) returns
-    (λ c κs. search needs) (λ c. search needs) (λ c. search needs) (λ c κs. search needs) add-n slice-aggregate-judge-data
-    (λ c κs. search needs) returns-2)
+    (tie.spec (λ c. search needs) (λ c. search needs) (λ c κs. search needs) (λ c κs. search needs) (λ c. search needs) (λ c. search needs) returns (λ c κs. search needs) returns-2 (λ c κs. search needs) slice-aggregate-judge-data judge-data-requires returns-3)

@@ -1,4 +1,5 @@
 -- `judge_write` meets its contract: by what reading the data found, then test by test.
+use mathlib.Core.List.{_++_}
 use mathlib.Core.Path.{_≡_, sym}
 use borrow.Author.Needs.{needs}
 use borrow.Author.Tests.{not-true, not-false}
@@ -9,9 +10,11 @@ use Rattle.command.proofs.judgement.judge_write.Statement.{statement}
 use Rattle.command.proofs.judgement.judge_write.Tie as tie
 
 read : (c : tie.After-parse)
-    → let a = c .before .before .args in
-    judgeParsed (a .mode) (c .parse .result) ≡ judgeWrite (a .c) (a .mode) (now (a .d))
-read c = let a = c .before .before .args in rw (c .parse .ensures) (sym (write-parsed (a .c) (a .mode) (now (a .d))))
+    → let a = c .before .before .before .args in
+    judgeParsed (a .mode) (c .parse .result) ≡ judgeWrite (a .c) (a .mode) (now (a .held) ++ now (a .payload))
+read c =
+    let a = c .before .before .before .args in
+    rw (c .parse .ensures) (sym (write-parsed (a .c) (a .mode) (now (a .held) ++ now (a .payload))))
 
 returns : tie.Need-returns
 returns c = rw (c .enum-told .given .1) at (read (c .before .before))

@@ -1,71 +1,33 @@
--- `play` meets its contract. The loop's invariant: what is left of the bytes goes on from where the head is.
-use Prim.Native.Nat.{ℕ, _≤_, _<_, _-_}
+-- `play` meets its contract. The loop's invariant: what is left of the bytes goes on from where the play stands.
+use Prim.Native.Nat.{ℕ, _+_, _≤_, _<_, _-_}
 use mathlib.Core.Path.{_≡_, refl, sym, ap, _∙_}
-use mathlib.Core.Bool.{true}
-use mathlib.Core.List.{List, [], _∷_}
+use mathlib.Core.Bool.{true, not, Bool·not-not}
+use mathlib.Core.List.{List}
 use native.Mathlib.Omega.{arith}
+use lib.Dec.{eqb}
 use lib.ListN.{length, take, drop, length-drop}
-use lib.Seq.{take-all}
+use lib.Seq.{length-take-le}
 use borrow.Author.Needs.{needs}
 use borrow.Author.Tests.{not-true, not-false}
 use denote.Ref.{now}
-use denote.Enum.Declared.{tagOf}
-use types.Run.{OneOf, miss}
-use Rattle.packet.specs.Receiver.{zeros}
+use Rattle.packet.specs.Stream.{size}
+use Rattle.packet.proofs.NumberLaws.{bytes-at, bytes-take, bytes-drop}
+use Rattle.packet.proofs.StreamLaws.{size-most}
 use Rattle.command.specs.Rules.{settingsInRule}
-use Rattle.command.specs.Endpoint.{Answers, outcomeOf, After}
-use Rattle.command.specs.Inner.{controllerOf}
-use Rattle.command.specs.declared.endpoint.Answer.{Answer}
-use Rattle.command.specs.declared.endpoint.Answer.the-variants.{Waiting, Answered, ShortOutput, OutOfRule}
-use Rattle.command.proofs.endpoint.Answer.{the-type}
-use Rattle.command.proofs.player.Turns.{Going, Turn, going-start, going-packet, going-end, going-done}
+use Rattle.command.specs.Controller.{transferIn, transferInRule}
+use Rattle.command.specs.Transfer.{isOpen}
+use Rattle.command.specs.Inner.{stateIn}
+use Rattle.command.proofs.transfer.Laws.{open-is}
+use Rattle.command.proofs.player.Turns.{Going, Turned, going-start, going-packet, going-stop, going-done}
 use Rattle.command.proofs.player.play.Statement.{statement}
 use Rattle.command.proofs.player.play.Tie as tie
 
 abbrev Inv-loop : tie.InvT-loop
-Inv-loop b c₀ hold₀ out₀ good₀ at₀ c hold out good at = (at ≤ length b) × (length out ≡ 64) × Going (c₀ .settings) b (controllerOf c hold) good at
+Inv-loop b settings₀ transfer₀ buffer₀ acknowledged₀ at₀ settings transfer buffer acknowledged at =
+    (at ≤ length b) × (transferInRule transfer ≡ true) × Going settings₀ b (stateIn settings transfer buffer) acknowledged at
 
 abbrev μ-loop : tie.MeasureT-loop
-μ-loop b c₀ hold₀ out₀ good₀ at₀ c hold out good at = length b - at
-
--- what the call in the loop answered and left
-abbrev served : tie.After-serve Inv-loop μ-loop → After
-served c =
-    record {
-      answer = outcomeOf (c .serve .result .answer);
-      controller = controllerOf (c .serve .result .parts) (c .serve .last .1 .0);
-      output = c .serve .last .1 .1 .1 .0;
-    }
-
--- it is the receive call on the bytes that are left
-turn : (c : tie.After-serve Inv-loop μ-loop)
-    → let l = c .before .before .before .before .before in
-    let a = l .before .before .before .before .args in
-    Turn (a .s) (now (a .b)) (l .loop .out) (controllerOf (l .loop .c) (l .loop .hold)) (l .loop .good) (l .loop .at) (served c)
-turn c =
-    let l = c .before .before .before .before .before in
-    let b = now (l .before .before .before .before .args .b) in
-    let w : take (length b - l .loop .at) (drop (l .loop .at) b) ≡ drop (l .loop .at) b =
-    take-all (length b - l .loop .at) (drop (l .loop .at) b) (omega (arith, length-drop (l .loop .at) b)) in
-    record {
-      going = l .loop .inv .2;
-      room = omega (arith, l .loop .inv .1);
-      left = c .before .before .before .before .loop-test .taken;
-      call = rw (c .serve .ensures .0, c .serve .ensures .1, c .serve .ensures .2, w);
-    }
-
--- the output keeps its length
-out-length : (c : tie.After-serve Inv-loop μ-loop) → length (c .serve .last .1 .1 .1 .0) ≡ 64
-out-length c = omega (arith, c .serve .kept .1 .1 .1 .0, c .before .before .before .before .before .loop .inv .1)
-
-abbrev others : List ℕ
-others = 0 ∷ 2 ∷ 3 ∷ []
-
-not-answered : (a : Answer) → OneOf others (tagOf the-type a) → (n m : ℕ) → outcomeOf a ≡ Answers n m → ⊥
-not-answered (Waiting k) h n m e = let z : _≡_ {A = ℕ} 0 1 = cc in omega arith
-not-answered (Answered k j) h n m e = absurd (miss others 1 tt h)
-not-answered ShortOutput h n m e = let z : _≡_ {A = ℕ} 0 1 = cc in omega arith
-not-answered OutOfRule h n m e = let z : _≡_ {A = ℕ} 0 1 = cc in omega arith
+μ-loop b settings₀ transfer₀ buffer₀ acknowledged₀ at₀ settings transfer buffer acknowledged at = length b - at
 
 -- the settings are in rule past the test
 ruled : (c : tie.Else1 Inv-loop μ-loop) → settingsInRule (c .before .before .before .args .s) ≡ true
@@ -77,51 +39,86 @@ returns c =
     rw e (refl, refl)
 
 loop-holds : tie.Need-loop-holds Inv-loop μ-loop
-unfolding zeros
+unfolding transferInRule
 loop-holds c =
     let a = c .before .before .before .args in
-    (omega arith, refl, going-start (a .s) (now (a .b)) (ruled c))
+    (omega arith, refl, going-start (a .s) (now (a .b)))
 
-slice-aggregate-serve : tie.Need-slice-aggregate-serve Inv-loop μ-loop
-slice-aggregate-serve c = sym (c .before .before .before .before .loop .inv .1)
-
-array-read-good : tie.Need-array-read-good Inv-loop μ-loop
-array-read-good c = omega (arith, out-length (c .before .before .before .before .before))
-
-add-at : tie.Need-add-at Inv-loop μ-loop
-add-at c =
-    let k = c .before .before .before .before .before in
-    let s = k .before .before .before .before .before .before .before .before .before in
-    let n : length (now (s .args .b)) < 18446744073709551616 = search (needs, s .good .1) in
-    omega (arith, n, going-packet (turn k) _ _ (ap outcomeOf (c .before .answer .given .1)) .1)
-
-loop-less : tie.Need-loop-less Inv-loop μ-loop
-loop-less c =
-    let t = going-packet (turn (c .before .before .before .before .before)) _ _ (ap outcomeOf (c .before .answer .given .1)) in
-    omega (arith, t .0, t .1)
-
-loop-again : tie.Need-loop-again Inv-loop μ-loop
-loop-again c =
-    let k = c .before .before .before .before .before in
-    let t = going-packet (turn k) _ _ (ap outcomeOf (c .before .answer .given .1)) in
-    (t .1, out-length k, t .2)
-
-loop-again-2 : tie.Need-loop-again-2 Inv-loop μ-loop
-loop-again-2 c =
-    let k = c .before .before .before in
-    (omega arith, out-length k, going-end (turn k) (not-answered (k .serve .result .answer) (c .match .keys2)))
-
+-- too few bytes for a packet
 returns-2 : tie.Need-returns-2 Inv-loop μ-loop
 returns-2 c =
     let l = c .before .before .before .before in
+    rw (ruled (l .before)) (going-stop (l .loop .inv .2) (sym (c .before .before .next-packet .ensures) ∙ c .enum-told .given .1) (c .before .before .before .loop-test .taken))
+
+-- the packet that stands at the place, and the play after it
+turn : (c : tie.After-size Inv-loop μ-loop)
+    → let l = c .before .before .before .before in
     let a = l .before .before .before .before .args in
-    let e : l .loop .at ≡ length (now (a .b)) = omega (arith, l .loop .inv .0) in
-    let d = going-done (a .s) (now (a .b)) (controllerOf (l .loop .c) (l .loop .hold)) (l .loop .good) (rw e at (l .loop .inv .2)) in
-    rw (ruled (l .before)) d
+    Turned (a .s) (now (a .b)) (stateIn (l .loop .settings) (l .loop .transfer) (l .loop .buffer)) (l .loop .acknowledged) (l .loop .at)
+    (c .size .given .0 .0) (c .size .given .0 .1 .0)
+turn c =
+    let l = c .before .before .before .before in
+    going-packet (l .loop .inv .2) (c .size .given .0 .0) (c .size .given .0 .1 .0) (sym (c .before .before .next-packet .ensures) ∙ c .size .given .1) (l .loop .inv .0)
+
+-- all of it is in the slice
+within : (c : tie.After-size Inv-loop μ-loop)
+    → let l = c .before .before .before .before in
+    l .loop .at + c .size .given .0 .0 < 18446744073709551616
+within c =
+    let s = c .before .before .before .before .before .before .before .before in
+    let n : length (now (s .args .b)) < 18446744073709551616 = search (needs, s .good .1) in
+    omega (arith, n, turn c .within)
+
+-- the slice that is handed on is the packet
+handed : (c : tie.After-size Inv-loop μ-loop)
+    → let l = c .before .before .before .before in
+    let b = now (l .before .before .before .before .args .b) in
+    take (l .loop .at + c .size .given .0 .0 - l .loop .at) (drop (l .loop .at) b) ≡ take (c .size .given .0 .0) (drop (l .loop .at) b)
+handed c =
+    let l = c .before .before .before .before in
+    let b = now (l .before .before .before .before .args .b) in
+    let e : l .loop .at + c .size .given .0 .0 - l .loop .at ≡ c .size .given .0 .0 = omega arith in
+    ap (λ (n : ℕ). take n (drop (l .loop .at) b)) e
+
+part-play-packet-end : tie.Need-part-play-packet-end Inv-loop μ-loop
+part-play-packet-end c = let h = turn (c .before .before) .within in omega arith
+
+play-packet-requires : tie.Need-play-packet-requires Inv-loop μ-loop
+play-packet-requires c κs =
+    let k = c .before .before .before in
+    let l = k .before .before .before .before in
+    let t = turn k in
+    let s = l .before .before .before .before in
+    let b = now (s .args .b) in
+    let n : length (take (k .size .given .0 .0) (drop (l .loop .at) b)) ≡ k .size .given .0 .0 = length-take-le _ _ (omega (arith, t .within, length-drop (l .loop .at) b)) in
+    let m : size (take (k .size .given .0 .0) (drop (l .loop .at) b)) ≤ 65542 =
+    size-most _ (bytes-take (k .size .given .0 .0) _ (bytes-drop (l .loop .at) b (bytes-at b (λ i. l .before .before .before .shared-slice-known .given i .fits)))) in
+    rw (handed k) (omega (arith, n, t .least), omega (arith, m, t .whole), t .whole, t .sum, l .loop .inv .1)
+
+loop-again : tie.Need-loop-again Inv-loop μ-loop
+loop-again c =
+    let p = c .before .before .before in
+    let k = p .before .before .before .before in
+    let l = k .before .before .before .before in
+    let b = now (l .before .before .before .before .args .b) in
+    let t = turn k in
+    let e : take (l .loop .at + k .size .given .0 .0 - l .loop .at) (drop (l .loop .at) b) ≡ take (k .size .given .0 .0) (drop (l .loop .at) b) = handed k in
+    (t .within, p .play-packet .ensures .2, rw (p .play-packet .ensures .0, p .play-packet .ensures .1, e) (t .going))
+
+returns-3 : tie.Need-returns-3 Inv-loop μ-loop
+returns-3 c =
+    let l = c .before .before in
+    let a = l .before .before .before .before .args in
+    let g = going-done (l .loop .inv .2) (omega arith) in
+    let o : not (isOpen (transferIn (l .loop .transfer) (l .loop .buffer))) ≡ eqb (l .loop .transfer .active) 0 =
+    ap not (open-is (l .loop .transfer) (l .loop .inv .1) (l .loop .buffer)) ∙ Bool·not-not (eqb (l .loop .transfer .active) 0) in
+    rw (ruled (l .before), ← o) g
 
 pub play-spec : {M : Type 1} → statement M
 play-spec =
     tie.close
-    (tie.spec Inv-loop μ-loop (λ c κs. search needs) returns loop-holds (λ c. search needs) (λ c. search needs)
-    (λ c. search needs) slice-aggregate-serve (λ c κs. search needs) (λ c. search needs) array-read-good add-at loop-less
-    loop-again (λ c. omega arith) loop-again-2 returns-2)
+    (tie.spec Inv-loop μ-loop (λ c κs. search needs) returns loop-holds (λ c κs. search needs) (λ c. search needs)
+    (λ c. search needs) returns-2 (λ c. omega (arith, within (c .before .before))) (λ c. search needs) (λ c. search needs) part-play-packet-end
+    play-packet-requires (λ c. omega (arith, within (c .before .before .before .before .before .before .before)))
+    (λ c. let t = turn (c .before .before .before .before .before .before .before) in omega (arith, t .least, t .within)) loop-again
+    returns-3)

@@ -1,3 +1,0 @@
--- The laws of endpoint.
-pub mod Laws
-pub mod Boundary
