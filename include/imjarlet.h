@@ -28,7 +28,7 @@ enum {
     IMJARLET_OUTPUT_LEAST = 64,        /* the shortest output that a receive call or the encoder takes */
     IMJARLET_LIST_OUTPUT_LEAST = 128,  /* the shortest output that the standard list takes */
     IMJARLET_LIST_LENGTH = 111,        /* the length of the standard list */
-    IMJARLET_HOLD = 1024,              /* the most payload bytes of a transfer that are held */
+    IMJARLET_HOLD = 1024,              /* the most payload bytes that are held of a transfer, and of a packet */
     IMJARLET_REPORT_MOST = 60000       /* the most bytes of a report */
 };
 
@@ -169,22 +169,23 @@ typedef struct {
     size_t held;
 } imjarlet_transfer;
 
-/* What has come in of the current packet, and the payload bytes of the transfer and behind them its own. */
-typedef struct {
-    uint8_t header[6];
-    uint8_t sum;
-    size_t received;
-    uint8_t hold[IMJARLET_HOLD];
-} imjarlet_receiver;
-
-/*
- * A head: 1,112 bytes that the caller owns and lends. Settings may be read at any time; bytes that
- * other code has written there draw refusal 3 where they are out of rule.
- */
+/* All of a head but its two arrays. */
 typedef struct {
     imjarlet_settings settings;
     imjarlet_transfer transfer;
-    imjarlet_receiver receiver;
+    uint8_t header[6]; /* of the packet that is coming in; between two packets, of the last one */
+    uint8_t sum;       /* of its bytes so far, modulo 256; it begins anew with a packet's first byte */
+    size_t received;   /* how many bytes of it have come in */
+} imjarlet_registers;
+
+/*
+ * A head: 2,136 bytes that the caller owns and lends. Settings may be read at any time; bytes that
+ * other code has written there draw refusal 3 where they are out of rule.
+ */
+typedef struct {
+    imjarlet_registers registers;
+    uint8_t buffer[IMJARLET_HOLD]; /* the held bytes of the open transfer */
+    uint8_t hold[IMJARLET_HOLD];   /* the payload of the packet that is coming in, as far as there is room */
 } imjarlet_controller;
 
 /*

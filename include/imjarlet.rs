@@ -12,7 +12,7 @@ pub const OUTPUT_LEAST: usize = 64;
 pub const LIST_OUTPUT_LEAST: usize = 128;
 /// The length of the standard list.
 pub const LIST_LENGTH: usize = 111;
-/// The most payload bytes of a transfer that are held.
+/// The most payload bytes that are held of a transfer, and of a packet.
 pub const HOLD: usize = 1024;
 /// The most bytes of a report.
 pub const REPORT_MOST: usize = 60000;
@@ -126,24 +126,29 @@ pub struct Transfer {
     pub held: usize,
 }
 
-/// What has come in of the current packet, and the payload bytes of the transfer and behind them
-/// its own.
+/// All of a head but its two arrays.
 #[repr(C)]
-#[derive(Clone, PartialEq, Eq, Debug)]
-pub struct Receiver {
+#[derive(Clone, Copy, PartialEq, Eq, Debug)]
+pub struct Registers {
+    pub settings: Settings,
+    pub transfer: Transfer,
+    /// The header bytes of the packet that is coming in; between two packets, those of the last one.
     pub header: [u8; 6],
+    /// The sum of its bytes so far, modulo 256. It begins anew with a packet's first byte.
     pub sum: u8,
+    /// How many bytes of it have come in.
     pub received: usize,
-    pub hold: [u8; HOLD],
 }
 
 /// A head. All its fields may be read and written: the calls answer on any numbers.
 #[repr(C)]
 #[derive(Clone, PartialEq, Eq, Debug)]
 pub struct Controller {
-    pub settings: Settings,
-    pub transfer: Transfer,
-    pub receiver: Receiver,
+    pub registers: Registers,
+    /// The held bytes of the open transfer.
+    pub buffer: [u8; HOLD],
+    /// The payload of the packet that is coming in, as far as there is room.
+    pub hold: [u8; HOLD],
 }
 
 /// What a call refuses. It then takes nothing and leaves output and controller as they were.
@@ -215,6 +220,7 @@ pub mod raw {
     use super::{Controller, Settings};
 
     #[repr(C)]
+    #[derive(Clone, Copy, PartialEq, Eq, Debug)]
     pub struct Receipt {
         pub refusal: u8,
         pub complete: u8,
@@ -223,12 +229,14 @@ pub mod raw {
     }
 
     #[repr(C)]
+    #[derive(Clone, Copy, PartialEq, Eq, Debug)]
     pub struct Emitted {
         pub refusal: u8,
         pub length: usize,
     }
 
     #[repr(C)]
+    #[derive(Clone, Copy, PartialEq, Eq, Debug)]
     pub struct Verdict {
         pub refusal: u8,
         pub place: usize,

@@ -38,7 +38,7 @@ fn bytes(hex: &str) -> Vec<u8> {
 
 /// Both sides' responses to a stream.
 fn responses(stream: &[u8]) -> [Vec<u8>; 2] {
-    let mut theirs = ffi::fresh();
+    let mut theirs = ffi::Controller::fresh();
     let mut ours = model::Controller::default();
     let mut all = [Vec::new(), Vec::new()];
     let mut out = [0; 64];

@@ -1,172 +1,19 @@
-//! The static library's structs and calls, and what its structs are in the model's words.
-
-#![allow(dead_code)]
+//! The static library's calls, by the structs of include/imjarlet.rs, and what these are in the
+//! model's words.
 
 use super::model;
 
-#[repr(C)]
-#[derive(Clone, Copy, Debug, PartialEq)]
-pub struct Drive(pub u16);
+#[path = "../../include/imjarlet.rs"]
+mod imjarlet;
 
-#[repr(C)]
-#[derive(Clone, Copy, Debug, PartialEq)]
-pub struct Microseconds(pub u32);
-
-#[repr(C)]
-#[derive(Clone, Copy, Debug, PartialEq)]
-pub struct LedCurrent {
-    pub red: Drive,
-    pub green: Drive,
-    pub blue: Drive,
-}
-
-#[repr(C)]
-#[derive(Clone, Copy, Debug, PartialEq)]
-pub struct StaticColour {
-    pub blue: u8,
-    pub green: u8,
-    pub red: u8,
-    pub last: u8,
-}
-
-#[repr(C)]
-#[derive(Clone, Copy, Debug, PartialEq)]
-pub struct DisplaySetting {
-    pub long: u8,
-    pub short: u8,
-    pub rotate: u8,
-}
-
-#[repr(C)]
-#[derive(Clone, Copy, Debug, PartialEq)]
-pub struct VideoInput {
-    pub x: u16,
-    pub y: u16,
-    pub pixel: u16,
-    pub line: u16,
-    pub width: u16,
-    pub height: u16,
-}
-
-#[repr(C)]
-#[derive(Clone, Copy, Debug, PartialEq)]
-pub struct VideoMode {
-    pub rate: u8,
-    pub depth: u8,
-    pub led: u8,
-}
-
-#[repr(C)]
-#[derive(Clone, Copy, Debug, PartialEq)]
-pub struct PatternSequence {
-    pub depth: u8,
-    pub count: u8,
-    pub inversion: u8,
-    pub trigger: u8,
-    pub delay: Microseconds,
-    pub period: Microseconds,
-    pub exposure: Microseconds,
-    pub led: u8,
-}
-
-#[repr(C)]
-#[derive(Clone, Copy, Debug, PartialEq)]
-pub struct Settings {
-    pub mode: u8,
-    pub pattern: u8,
-    pub current: LedCurrent,
-    pub colour: StaticColour,
-    pub setting: DisplaySetting,
-    pub input: VideoInput,
-    pub video: VideoMode,
-    pub sequence: PatternSequence,
-    pub run: u8,
-}
-
-#[repr(C)]
-#[derive(Clone, Copy, Debug, PartialEq)]
-pub struct TransferState {
-    pub active: u8,
-    pub cmd1: u8,
-    pub cmd2: u8,
-    pub held: usize,
-}
-
-#[repr(C)]
-#[derive(Clone, Copy, Debug, PartialEq)]
-pub struct Receiver {
-    pub header: [u8; 6],
-    pub sum: u8,
-    pub received: usize,
-    pub hold: [u8; 1024],
-}
-
-#[repr(C)]
-#[derive(Clone, Copy, Debug, PartialEq)]
-pub struct Controller {
-    pub settings: Settings,
-    pub transfer: TransferState,
-    pub receiver: Receiver,
-}
-
-#[repr(C)]
-#[derive(Clone, Copy, Debug, PartialEq)]
-pub struct Receipt {
-    pub refusal: u8,
-    pub complete: u8,
-    pub taken: usize,
-    pub length: usize,
-}
-
-#[repr(C)]
-#[derive(Clone, Copy, Debug, PartialEq)]
-pub struct Emitted {
-    pub refusal: u8,
-    pub length: usize,
-}
-
-#[repr(C)]
-#[derive(Clone, Copy, Debug, PartialEq)]
-pub struct Verdict {
-    pub refusal: u8,
-    pub place: usize,
-    pub trial: usize,
-    pub score: usize,
-    pub settings: Settings,
-}
-
-mod raw {
-    use super::*;
-
-    extern "C" {
-        pub fn head_fresh() -> Controller;
-        pub fn head_reset(c: *mut Controller);
-        pub fn head_receive(
-            c: *mut Controller,
-            input: *const u8,
-            input_length: usize,
-            out: *mut u8,
-            out_length: usize,
-        ) -> Receipt;
-        pub fn head_encode(
-            cmd1: u8,
-            cmd2: u8,
-            settings: Settings,
-            out: *mut u8,
-            out_length: usize,
-        ) -> Emitted;
-        pub fn head_standard_list(settings: Settings, out: *mut u8, out_length: usize) -> Emitted;
-        pub fn head_check_report(report: *const u8, length: usize) -> Verdict;
-    }
-}
-
-pub fn fresh() -> Controller {
-    unsafe { raw::head_fresh() }
-}
-
-pub fn reset(c: &mut Controller) {
-    unsafe { raw::head_reset(c) }
-}
+use imjarlet::{
+    raw, DisplaySetting, Drive, LedCurrent, Microseconds, PatternSequence, StaticColour, Transfer,
+    VideoInput, VideoMode,
+};
+pub use imjarlet::{
+    raw::{Emitted, Receipt, Verdict},
+    Controller, Registers, Settings,
+};
 
 #[inline]
 pub fn receive(c: &mut Controller, input: &[u8], out: &mut [u8]) -> Receipt {
@@ -212,15 +59,15 @@ impl From<&model::Settings> for Settings {
                 last: s[11],
             },
             setting: DisplaySetting {
-                long: s[12],
-                short: s[13],
+                long_flip: s[12],
+                short_flip: s[13],
                 rotate: s[14],
             },
             input: VideoInput {
                 x: two(15),
                 y: two(17),
-                pixel: two(19),
-                line: two(21),
+                first_pixel: two(19),
+                first_line: two(21),
                 width: two(23),
                 height: two(25),
             },
@@ -244,23 +91,30 @@ impl From<&model::Settings> for Settings {
     }
 }
 
-impl From<&model::Controller> for Controller {
-    fn from(c: &model::Controller) -> Controller {
+impl From<&model::Controller> for Registers {
+    fn from(c: &model::Controller) -> Registers {
         let transfer = &c.state.transfer;
-        Controller {
+        Registers {
             settings: (&c.state.settings).into(),
-            transfer: TransferState {
+            transfer: Transfer {
                 active: transfer.mark,
                 cmd1: transfer.command[0],
                 cmd2: transfer.command[1],
                 held: transfer.held,
             },
-            receiver: Receiver {
-                header: c.header,
-                sum: c.sum,
-                received: c.received,
-                hold: c.hold,
-            },
+            header: c.header,
+            sum: c.sum,
+            received: c.received,
+        }
+    }
+}
+
+impl From<&model::Controller> for Controller {
+    fn from(c: &model::Controller) -> Controller {
+        Controller {
+            registers: c.into(),
+            buffer: c.state.buffer,
+            hold: c.hold,
         }
     }
 }

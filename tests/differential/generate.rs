@@ -508,10 +508,11 @@ pub fn controller_in_rule(rng: &mut Rng) -> Controller {
     let mut c = Controller {
         state: State {
             settings: settings_in_rule(rng),
-            transfer: Transfer::NONE,
+            ..State::default()
         },
         ..Controller::default()
     };
+    c.state.buffer.fill_with(|| rng.byte());
     c.hold.fill_with(|| rng.byte());
     let command = command(rng);
     if rng.one_in(2) {
@@ -529,7 +530,7 @@ pub fn controller_in_rule(rng: &mut Rng) -> Controller {
         };
         if held <= size {
             // What is held is the beginning of data that may well be allowed.
-            c.hold[..held].copy_from_slice(&allowed(rng, command)[..held]);
+            c.state.buffer[..held].copy_from_slice(&allowed(rng, command)[..held]);
         }
     }
     if rng.one_in(2) {
@@ -546,15 +547,14 @@ pub fn controller_in_rule(rng: &mut Rng) -> Controller {
         c.sum = bytes[..c.received]
             .iter()
             .fold(0, |sum, &b| sum.wrapping_add(b));
-        let held = if c.state.transfer.mark == 0 {
-            0
-        } else {
-            c.state.transfer.held
-        };
-        if c.received > 6 && held < 1024 {
-            let kept = (c.received - 6).min(1024 - held);
-            c.hold[held..held + kept].copy_from_slice(&bytes[6..6 + kept]);
+        if c.received > 6 {
+            let kept = (c.received - 6).min(1024);
+            c.hold[..kept].copy_from_slice(&bytes[6..6 + kept]);
         }
+    }
+    // Where nothing is half received any sum may be left over.
+    if c.received == 0 && rng.one_in(2) {
+        c.sum = rng.byte();
     }
     c
 }
@@ -620,7 +620,12 @@ pub fn damaged_controller(rng: &mut Rng) -> Controller {
                 }
             }
             5 => c.header = rng.bytes(6).try_into().unwrap(),
-            6 => c.sum = rng.byte(),
+            6 => {
+                c.sum = rng.byte();
+                if rng.one_in(2) {
+                    c.received = 0;
+                }
+            }
             7 | 8 => {
                 let length = u16::from_le_bytes([c.header[4], c.header[5]]) as usize;
                 c.received = match rng.below(8) {
@@ -644,6 +649,7 @@ pub fn damaged_controller(rng: &mut Rng) -> Controller {
                 };
             }
             _ => {
+                c.state.buffer.fill_with(|| rng.byte());
                 c.hold.fill_with(|| rng.byte());
                 c.state.transfer.held = rng.below(1030);
             }

@@ -41,6 +41,8 @@ struct Tally {
     lists: u64,
     reports: u64,
     damaged: u64,
+    /// Controllers in rule with a sum left over and nothing half received: no transfer open, and one.
+    left_over: [u64; 2],
     /// Payloads of 1,024, of 1,025 and of 65,535 bytes.
     long: [u64; 3],
     resets: u64,
@@ -88,46 +90,44 @@ fn hex(bytes: &[u8]) -> String {
 
 /// The first field in which the library's controller is not the model's.
 fn unlike(library: &ffi::Controller, model: &Controller) -> Option<String> {
-    let wanted = ffi::Settings::from(&model.state.settings);
-    if library.settings != wanted {
+    let got = &library.registers;
+    let wanted = ffi::Registers::from(model);
+    if got.settings != wanted.settings {
         return Some(format!(
             "settings {:?}, model {:?}",
-            library.settings, wanted
+            got.settings, wanted.settings
         ));
     }
-    let t = &model.state.transfer;
-    let wanted = ffi::TransferState {
-        active: t.mark,
-        cmd1: t.command[0],
-        cmd2: t.command[1],
-        held: t.held,
-    };
-    if library.transfer != wanted {
+    if got.transfer != wanted.transfer {
         return Some(format!(
             "transfer {:?}, model {:?}",
-            library.transfer, wanted
+            got.transfer, wanted.transfer
         ));
     }
-    let r = &library.receiver;
-    if (r.header, r.sum, r.received) != (model.header, model.sum, model.received) {
+    if *got != wanted {
         return Some(format!(
             "header {} sum {:02X} received {}, model {} {:02X} {}",
-            hex(&r.header),
-            r.sum,
-            r.received,
-            hex(&model.header),
-            model.sum,
-            model.received
+            hex(&got.header),
+            got.sum,
+            got.received,
+            hex(&wanted.header),
+            wanted.sum,
+            wanted.received
         ));
     }
-    if r.hold != model.hold {
-        let at = (0..1024).find(|&i| r.hold[i] != model.hold[i]).unwrap_or(0);
-        return Some(format!(
-            "hold[{at}] {:02X}, model {:02X}",
-            r.hold[at], model.hold[at]
-        ));
-    }
-    None
+    [
+        ("buffer", &library.buffer, &model.state.buffer),
+        ("hold", &library.hold, &model.hold),
+    ]
+    .into_iter()
+    .filter(|(_, got, wanted)| got != wanted)
+    .find_map(|(name, got, wanted)| {
+        let at = (0..model::HOLD).find(|&i| got[i] != wanted[i])?;
+        Some(format!(
+            "{name}[{at}] {:02X}, model {:02X}",
+            got[at], wanted[at]
+        ))
+    })
 }
 
 impl Harness {
@@ -267,7 +267,7 @@ impl Harness {
             }
         }
         if stream.reset {
-            ffi::reset(&mut theirs);
+            theirs.reset();
             if let Some(what) = unlike(&theirs, &Controller::default()) {
                 return Err(format!("after reset: {what}"));
             }
@@ -470,7 +470,25 @@ fn swept() -> impl Iterator<Item = Case> {
                 start,
             ]
         });
-    lengths.chain(commands).chain(kinds).chain(values)
+    // A sum left over: no bytes, then a packet whose checksum is right, then one whose sum goes on.
+    let sums = (1..=255).flat_map(|sum: u8| {
+        let right = generate::packet(2, [1, 3], 0, &[5]);
+        let mut on = right.clone();
+        on[7] = on[7].wrapping_add(sum);
+        [right, on].map(|bytes| {
+            let mut case = single(bytes, 64);
+            if let Case::Stream(stream) = &mut case {
+                stream.start.sum = sum;
+                stream.cuts = vec![0, ALL];
+            }
+            case
+        })
+    });
+    lengths
+        .chain(commands)
+        .chain(kinds)
+        .chain(values)
+        .chain(sums)
 }
 
 // ---------------------------------------------------------------------------------------------
@@ -529,6 +547,7 @@ fn smaller_stream(s: &Stream) -> Vec<Case> {
     push(&|n| n.start.header = fresh.header);
     push(&|n| n.start.sum = 0);
     push(&|n| n.start.received = 0);
+    push(&|n| n.start.state.buffer = fresh.state.buffer);
     push(&|n| n.start.hold = fresh.hold);
     push(&|n| n.start.state.transfer.held = 0);
     for i in 0..48 {
@@ -676,13 +695,10 @@ fn show(case: &Case) {
                     s.start.sum,
                     s.start.received
                 );
-                let used = s
-                    .start
-                    .hold
-                    .iter()
-                    .rposition(|&b| b != 0)
-                    .map_or(0, |n| n + 1);
-                println!("    hold {} then zeros", hex(&s.start.hold[..used]));
+                for (name, array) in [("buffer", &s.start.state.buffer), ("hold", &s.start.hold)] {
+                    let used = array.iter().rposition(|&b| b != 0).map_or(0, |n| n + 1);
+                    println!("    {name} {} then zeros", hex(&array[..used]));
+                }
             }
             for part in &s.parts {
                 println!("  input: {}", hex(part));
@@ -739,13 +755,16 @@ fn missing(t: &Tally) -> Vec<String> {
     need("read response".into(), t.read);
     need("encoded".into(), t.emit_refusals[0]);
     need("reset".into(), t.resets);
+    for (seen, open) in t.left_over.into_iter().zip(["no", "a"]) {
+        need(format!("a sum left over, {open} transfer open"), seen);
+    }
     none
 }
 
 fn summary(t: &Tally) {
     println!(
         "receive: {} calls ({} of one byte), {} packets: {} written, {} read, {} errors; {} waiting, \
-         refusal 1: {}, 3: {}; {} damaged or half-way controllers, {} resets",
+         refusal 1: {}, 3: {}; {} damaged or half-way controllers, {} with a sum left over, {} resets",
         t.calls,
         t.one_byte_calls,
         t.packets,
@@ -756,6 +775,7 @@ fn summary(t: &Tally) {
         t.receive_refusals[1],
         t.receive_refusals[3],
         t.damaged,
+        t.left_over[0] + t.left_over[1],
         t.resets
     );
     println!(
@@ -825,7 +845,7 @@ fn main() {
         exact,
         tally: Tally::default(),
     };
-    if let Some(what) = unlike(&ffi::fresh(), &Controller::default()) {
+    if let Some(what) = unlike(&ffi::Controller::fresh(), &Controller::default()) {
         println!("DIFFERENT: fresh controller: {what}");
         std::process::exit(1);
     }
@@ -852,7 +872,11 @@ fn main() {
         let mut rng = Rng::new(seed, number);
         if harness.tally.packets < count {
             let stream = stream_case(&mut rng);
-            harness.tally.damaged += (stream.start != Controller::default()) as u64;
+            let start = &stream.start;
+            harness.tally.damaged += (*start != Controller::default()) as u64;
+            if start.in_rule() && start.received == 0 && start.sum != 0 {
+                harness.tally.left_over[start.state.transfer.open() as usize] += 1;
+            }
             for part in &stream.parts {
                 harness.tally.long[0] += (part.len() == 1024 + 7) as u64;
                 harness.tally.long[1] += (part.len() == 1025 + 7) as u64;

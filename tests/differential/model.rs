@@ -4,8 +4,10 @@
 
 #![allow(dead_code)]
 
-/// The payload bytes of a transfer that are held at most.
+/// The payload bytes that are held at most, of a transfer and of a packet.
 pub const HOLD: usize = 1024;
+/// The data of the command that has most, the pattern sequence.
+const LARGEST: usize = 17;
 /// The bytes of a packet before its payload.
 pub const HEADER: usize = 6;
 /// The shortest output of a receive call or of the encoder, and of the standard list.
@@ -46,7 +48,7 @@ const fn planted(_fault: usize) -> bool {
 }
 
 /// What each planted fault is, from 1.
-pub const PLANTS: [&str; 20] = [
+pub const PLANTS: [&str; 24] = [
     "the last of equal scores is the winner",
     "a transfer stays open after an error packet",
     "error codes descend",
@@ -67,6 +69,10 @@ pub const PLANTS: [&str; 20] = [
     "refusal 19 is placed at kind 3",
     "a half-received packet that has all its bytes is not refused",
     "17 comes before 20",
+    "a sum left over where nothing is half received is continued",
+    "a payload that is coming in is stored over the transfer's data",
+    "empty input begins the sum anew",
+    "a part of a transfer is stored before it is judged",
 ];
 
 // ---------------------------------------------------------------------------------------------
@@ -134,7 +140,7 @@ impl Command {
             Display => (12, 3),
             Input => (15, 12),
             Video => (27, 3),
-            Sequence => (30, 17),
+            Sequence => (30, LARGEST),
             Run => (47, 1),
         }
     }
@@ -285,7 +291,7 @@ impl Transfer {
     };
 
     #[inline]
-    fn open(&self) -> bool {
+    pub fn open(&self) -> bool {
         self.mark != 0
     }
 
@@ -312,6 +318,18 @@ enum Answer {
 pub struct State {
     pub settings: Settings,
     pub transfer: Transfer,
+    /// Its first bytes are the transfer's held data.
+    pub buffer: [u8; HOLD],
+}
+
+impl Default for State {
+    fn default() -> Self {
+        State {
+            settings: Settings::FACTORY,
+            transfer: Transfer::NONE,
+            buffer: [0; HOLD],
+        }
+    }
 }
 
 impl State {
@@ -378,13 +396,30 @@ impl State {
         0
     }
 
-    /// Judges a complete packet and carries it out. `joined` is the transfer's held data and this
-    /// payload behind them; it is not looked at when they are over 1,024 bytes.
+    /// The same for a transfer, of which this is the last payload.
     #[inline]
-    fn judge(&mut self, header: &[u8; HEADER], sum_right: bool, joined: &[u8]) -> Answer {
+    fn store_joined(&mut self, command: Command, payload: &[u8]) -> Faults {
+        let held = self.transfer.held;
+        if held + payload.len() != command.size() {
+            return SIZE;
+        }
+        let mut joined = [0; LARGEST];
+        let joined = &mut joined[..command.size()];
+        joined[..held].copy_from_slice(&self.buffer[..held]);
+        joined[held..].copy_from_slice(payload);
+        self.store(command, joined)
+    }
+
+    /// Judges a complete packet and carries it out. A payload over 1,024 bytes is not looked at, and
+    /// need not be all there.
+    #[inline]
+    fn judge(&mut self, header: &[u8; HEADER], sum_right: bool, payload: &[u8]) -> Answer {
         let mut faults = self.first_group(header, sum_right);
         let &[kind, cmd1, cmd2, flags, low, high] = header;
         let length = u16::from_le_bytes([low, high]) as usize;
+        if planted(24) && matches!(flags, BEGINNING | INTERMEDIATE) {
+            fit(&mut self.buffer, self.transfer.held(), payload);
+        }
         if let (0, Some(command)) = (faults, Command::from_bytes(cmd1, cmd2)) {
             match flags {
                 WHOLE if kind == READ => {
@@ -394,6 +429,7 @@ impl State {
                     faults = SIZE;
                 }
                 BEGINNING => {
+                    fit(&mut self.buffer, 0, payload);
                     self.transfer = Transfer {
                         mark: 1,
                         command: [cmd1, cmd2],
@@ -401,11 +437,16 @@ impl State {
                     };
                 }
                 INTERMEDIATE => {
+                    fit(&mut self.buffer, self.transfer.held, payload);
                     self.transfer.mark = 1;
                     self.transfer.held += length;
                 }
+                LAST => {
+                    faults = self.store_joined(command, payload);
+                    self.transfer = Transfer::NONE;
+                }
                 _ => {
-                    faults = self.store(command, joined);
+                    faults = self.store(command, payload);
                     self.transfer = Transfer::NONE;
                 }
             }
@@ -422,6 +463,15 @@ impl State {
 
 // ---------------------------------------------------------------------------------------------
 // The receiver
+
+/// Puts bytes into an array from a place on, as far as there is room.
+#[inline]
+fn fit(array: &mut [u8; HOLD], at: usize, bytes: &[u8]) {
+    if let Some(room) = array.get_mut(at..) {
+        let kept = bytes.len().min(room.len());
+        room[..kept].copy_from_slice(&bytes[..kept]);
+    }
+}
 
 #[inline]
 fn sum(bytes: &[u8]) -> u8 {
@@ -448,17 +498,14 @@ pub struct Controller {
     pub header: [u8; HEADER],
     pub sum: u8,
     pub received: usize,
-    /// The transfer's held data and behind them the payload that is coming in.
+    /// Its payload, as far as there is room.
     pub hold: [u8; HOLD],
 }
 
 impl Default for Controller {
     fn default() -> Self {
         Controller {
-            state: State {
-                settings: Settings::FACTORY,
-                transfer: Transfer::NONE,
-            },
+            state: State::default(),
             header: [0; HEADER],
             sum: 0,
             received: 0,
@@ -523,6 +570,10 @@ impl Controller {
                 *slot = byte;
             }
         }
+        // With nothing half received the sum begins anew, whatever stood there.
+        if self.received == 0 && (!head.is_empty() || planted(23)) && !planted(21) {
+            self.sum = 0;
+        }
         if !planted(4) {
             self.sum = head.iter().fold(self.sum, |sum, &b| sum.wrapping_add(b));
         }
@@ -536,10 +587,10 @@ impl Controller {
         if payload.is_empty() {
             return;
         }
-        let at = self.state.transfer.held() + (self.received - HEADER);
-        if let Some(room) = self.hold.get_mut(at..) {
-            let kept = payload.len().min(room.len());
-            room[..kept].copy_from_slice(&payload[..kept]);
+        let at = self.received - HEADER;
+        fit(&mut self.hold, at, payload);
+        if planted(22) {
+            fit(&mut self.state.buffer, at, payload);
         }
         self.sum = self.sum.wrapping_add(sum(payload));
         self.received += payload.len();
@@ -548,10 +599,8 @@ impl Controller {
     /// Answers the packet that its last byte completes.
     #[inline]
     fn answer(&mut self, last: u8, out: &mut [u8; OUTPUT]) -> usize {
-        let joined = (self.state.transfer.held() + self.length()).min(HOLD);
-        let answer = self
-            .state
-            .judge(&self.header, self.sum == last, &self.hold[..joined]);
+        let payload = &self.hold[..self.length().min(HOLD)];
+        let answer = self.state.judge(&self.header, self.sum == last, payload);
         self.received = 0;
         self.sum = 0;
         let command = [self.header[1], self.header[2]];
@@ -662,9 +711,8 @@ pub struct Played {
 pub fn play(settings: Settings, mut bytes: &[u8]) -> Played {
     let mut state = State {
         settings,
-        transfer: Transfer::NONE,
+        ..State::default()
     };
-    let mut hold = [0u8; HOLD];
     let mut acknowledged = true;
     while let Some((header, after)) = bytes.split_first_chunk::<HEADER>() {
         let length = u16::from_le_bytes([header[4], header[5]]) as usize;
@@ -675,16 +723,7 @@ pub fn play(settings: Settings, mut bytes: &[u8]) -> Played {
         bytes = rest;
         let head = if planted(4) { 0 } else { sum(header) };
         let right = head.wrapping_add(sum(payload)) == last;
-        let held = state.transfer.held();
-        let joined = if header[3] == WHOLE {
-            payload
-        } else if held + length <= HOLD {
-            hold[held..held + length].copy_from_slice(payload);
-            &hold[..held + length]
-        } else {
-            &[]
-        };
-        acknowledged &= matches!(state.judge(header, right, joined), Answer::Written);
+        acknowledged &= matches!(state.judge(header, right, payload), Answer::Written);
     }
     let finished = bytes.is_empty() && !state.transfer.open();
     Played {

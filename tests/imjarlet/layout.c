@@ -33,10 +33,10 @@
     FIELD(settings, run, 52)                                                                       \
     SIZE(transfer, 16) FIELD(transfer, active, 0) FIELD(transfer, cmd1, 1)                         \
     FIELD(transfer, cmd2, 2) FIELD(transfer, held, 8)                                              \
-    SIZE(receiver, 1040) FIELD(receiver, header, 0) FIELD(receiver, sum, 6)                        \
-    FIELD(receiver, received, 8) FIELD(receiver, hold, 16)                                         \
-    SIZE(controller, 1112) FIELD(controller, settings, 0) FIELD(controller, transfer, 56)          \
-    FIELD(controller, receiver, 72)                                                                \
+    SIZE(registers, 88) FIELD(registers, settings, 0) FIELD(registers, transfer, 56)               \
+    FIELD(registers, header, 72) FIELD(registers, sum, 78) FIELD(registers, received, 80)          \
+    SIZE(controller, 2136) FIELD(controller, registers, 0) FIELD(controller, buffer, 88)           \
+    FIELD(controller, hold, 1112)                                                                  \
     SIZE(receipt, 24) FIELD(receipt, refusal, 0) FIELD(receipt, complete, 1)                       \
     FIELD(receipt, taken, 8) FIELD(receipt, length, 16)                                            \
     SIZE(emitted, 16) FIELD(emitted, refusal, 0) FIELD(emitted, length, 8)                         \
@@ -91,26 +91,28 @@ static int same_settings(const settings *a, const settings *b) {
 }
 
 static int same_controller(const controller *a, const controller *b) {
-    return same_settings(&a->settings, &b->settings) && a->transfer.active == b->transfer.active &&
-           a->transfer.cmd1 == b->transfer.cmd1 && a->transfer.cmd2 == b->transfer.cmd2 &&
-           a->transfer.held == b->transfer.held && memcmp(&a->receiver, &b->receiver, 7) == 0 &&
-           a->receiver.received == b->receiver.received &&
-           memcmp(a->receiver.hold, b->receiver.hold, IMJARLET_HOLD) == 0;
+    const imjarlet_registers *r = &a->registers, *s = &b->registers;
+    return same_settings(&r->settings, &s->settings) && r->transfer.active == s->transfer.active &&
+           r->transfer.cmd1 == s->transfer.cmd1 && r->transfer.cmd2 == s->transfer.cmd2 &&
+           r->transfer.held == s->transfer.held && memcmp(r->header, s->header, 6) == 0 && r->sum == s->sum &&
+           r->received == s->received && memcmp(a->buffer, b->buffer, IMJARLET_HOLD) == 0 &&
+           memcmp(a->hold, b->hold, IMJARLET_HOLD) == 0;
 }
 
 /* The factory values, written out from document 01. */
 static int is_fresh(const controller *c) {
     controller f;
+    settings *s = &f.registers.settings;
     memset(&f, 0, sizeof f);
-    f.settings.current.red.counts = f.settings.current.green.counts = f.settings.current.blue.counts = 274;
-    f.settings.setting.short_flip = 1;
-    f.settings.input.x = f.settings.input.width = 608;
-    f.settings.input.y = f.settings.input.height = 684;
-    f.settings.video.rate = 60;
-    f.settings.video.depth = 8;
-    f.settings.video.led = 1;
-    f.settings.sequence.depth = 1;
-    f.settings.sequence.count = 1;
+    s->current.red.counts = s->current.green.counts = s->current.blue.counts = 274;
+    s->setting.short_flip = 1;
+    s->input.x = s->input.width = 608;
+    s->input.y = s->input.height = 684;
+    s->video.rate = 60;
+    s->video.depth = 8;
+    s->video.led = 1;
+    s->sequence.depth = 1;
+    s->sequence.count = 1;
     return same_controller(c, &f);
 }
 
@@ -213,7 +215,7 @@ static void set(settings *s, int k) {
 }
 
 static void every_setting(void) {
-    settings expected = head_fresh().settings;
+    settings expected = head_fresh().registers.settings;
     imjarlet_emitted e;
     imjarlet_receipt r;
     uint8_t list[200], joined[200];
@@ -228,7 +230,7 @@ static void every_setting(void) {
         check(r.refusal == 0 && r.complete == 1 && r.taken == 7 + n && r.length == 7, "the receipt of a write");
         check(out[0] == IMJARLET_WRITE_RESPONSE && out[1] == c1 && out[2] == c2 && out[3] == IMJARLET_WHOLE,
               "a write response");
-        check(same_settings(&box.c.settings, &expected), "a write stores its values in its own fields alone");
+        check(same_settings(&box.c.registers.settings, &expected), "a write stores its values in its own fields alone");
         memset(out, 0xA5, sizeof out);
         e = head_encode(c1, c2, expected, out, sizeof out);
         check(e.refusal == 0 && e.length == 7 + n && memcmp(out, packet, 7 + n) == 0 && out[7 + n] == 0xA5,
@@ -253,7 +255,7 @@ static void every_setting(void) {
         r = head_receive(&box.c, list + i, e.length - i, out, sizeof out);
         if (r.complete == 0) break;
     }
-    check(i == e.length && same_settings(&box.c.settings, &expected), "the standard list plays back");
+    check(i == e.length && same_settings(&box.c.registers.settings, &expected), "the standard list plays back");
 }
 
 /* A value that the field may not have draws refusal 3, and the controller stays. */
@@ -271,31 +273,31 @@ static void every_setting(void) {
     } while (0)
 
 static void out_of_rule(void) {
-    settings s = head_fresh().settings;
+    settings s = head_fresh().registers.settings;
     imjarlet_emitted e;
-    OUT_OF_RULE(settings.mode, 3);
-    OUT_OF_RULE(settings.pattern, 14);
-    OUT_OF_RULE(settings.current.red.counts, 1025);
-    OUT_OF_RULE(settings.current.green.counts, 1025);
-    OUT_OF_RULE(settings.current.blue.counts, 1025);
-    OUT_OF_RULE(settings.colour.last, 1);
-    OUT_OF_RULE(settings.setting.long_flip, 2);
-    OUT_OF_RULE(settings.setting.short_flip, 2);
-    OUT_OF_RULE(settings.setting.rotate, 2);
-    OUT_OF_RULE(settings.input.x, 1);
-    OUT_OF_RULE(settings.input.y, 1);
-    OUT_OF_RULE(settings.video.rate, 0);
-    OUT_OF_RULE(settings.video.depth, 0);
-    OUT_OF_RULE(settings.video.led, 0);
-    OUT_OF_RULE(settings.sequence.depth, 0);
-    OUT_OF_RULE(settings.sequence.count, 0);
-    OUT_OF_RULE(settings.sequence.inversion, 3);
-    OUT_OF_RULE(settings.sequence.trigger, 7);
-    OUT_OF_RULE(settings.sequence.led, 3);
-    OUT_OF_RULE(settings.run, 1);
-    OUT_OF_RULE(transfer.held, IMJARLET_HOLD + 1);
-    OUT_OF_RULE(transfer.active, 1);
-    OUT_OF_RULE(receiver.received, 7);
+    OUT_OF_RULE(registers.settings.mode, 3);
+    OUT_OF_RULE(registers.settings.pattern, 14);
+    OUT_OF_RULE(registers.settings.current.red.counts, 1025);
+    OUT_OF_RULE(registers.settings.current.green.counts, 1025);
+    OUT_OF_RULE(registers.settings.current.blue.counts, 1025);
+    OUT_OF_RULE(registers.settings.colour.last, 1);
+    OUT_OF_RULE(registers.settings.setting.long_flip, 2);
+    OUT_OF_RULE(registers.settings.setting.short_flip, 2);
+    OUT_OF_RULE(registers.settings.setting.rotate, 2);
+    OUT_OF_RULE(registers.settings.input.x, 1);
+    OUT_OF_RULE(registers.settings.input.y, 1);
+    OUT_OF_RULE(registers.settings.video.rate, 0);
+    OUT_OF_RULE(registers.settings.video.depth, 0);
+    OUT_OF_RULE(registers.settings.video.led, 0);
+    OUT_OF_RULE(registers.settings.sequence.depth, 0);
+    OUT_OF_RULE(registers.settings.sequence.count, 0);
+    OUT_OF_RULE(registers.settings.sequence.inversion, 3);
+    OUT_OF_RULE(registers.settings.sequence.trigger, 7);
+    OUT_OF_RULE(registers.settings.sequence.led, 3);
+    OUT_OF_RULE(registers.settings.run, 1);
+    OUT_OF_RULE(registers.transfer.held, IMJARLET_HOLD + 1);
+    OUT_OF_RULE(registers.transfer.active, 1);
+    OUT_OF_RULE(registers.received, 7);
     s.mode = 3;
     e = head_standard_list(s, packet, sizeof packet);
     check(e.refusal == IMJARLET_OUT_OF_RULE && e.length == 0, "a list of settings out of rule");
@@ -307,78 +309,100 @@ static void out_of_rule(void) {
     check(e.refusal == IMJARLET_NOT_ALLOWED && e.length == 0, "the encoder of a command that is not in the table");
 }
 
-/* The transfer and the receiver: what the library stores there, and what it reads. */
-static void transfer_and_receiver(void) {
-    static const uint8_t six[6] = {1, 0, 2, 1, 0xFF, 3};
+/* The transfer and the packet that is coming in: what the library stores there, and what it reads. */
+static const uint8_t six[6] = {1, 0, 2, 1, 0xFF, 3};
+
+static void stored(void) {
+    imjarlet_registers *at = &box.c.registers;
     imjarlet_receipt r;
     size_t n;
     uint8_t sum;
     head_reset(&box.c);
     r = send(IMJARLET_HOST_WRITE, 0x01, 0x04, IMJARLET_BEGINNING, six, 3);
-    check(r.complete == 1 && out[0] == IMJARLET_WRITE_RESPONSE && box.c.transfer.active == 1 &&
-              box.c.transfer.cmd1 == 0x01 && box.c.transfer.cmd2 == 0x04 && box.c.transfer.held == 3,
+    check(r.complete == 1 && out[0] == IMJARLET_WRITE_RESPONSE && at->transfer.active == 1 &&
+              at->transfer.cmd1 == 0x01 && at->transfer.cmd2 == 0x04 && at->transfer.held == 3,
           "a beginning opens a transfer");
-    check(memcmp(box.c.receiver.header, packet, 6) == 0 && box.c.receiver.sum == 0 && box.c.receiver.received == 0 &&
-              memcmp(box.c.receiver.hold, six, 3) == 0,
-          "its header and its payload are held");
+    check(memcmp(at->header, packet, 6) == 0 && at->sum == 0 && at->received == 0 && memcmp(box.c.hold, six, 3) == 0,
+          "its header and its payload are there");
+    check(memcmp(box.c.buffer, six, 3) == 0 && box.c.buffer[3] == 0, "its payload is held");
     n = make(IMJARLET_HOST_WRITE, 0x01, 0x04, IMJARLET_INTERMEDIATE, six + 3, 2);
     sum = (uint8_t)(packet[0] + packet[1] + packet[2] + packet[3] + packet[4]);
     r = head_receive(&box.c, packet, 5, out, sizeof out);
-    check(r.refusal == 0 && r.complete == 0 && r.taken == 5 && r.length == 0 && box.c.receiver.received == 5 &&
-              box.c.receiver.sum == sum,
+    check(r.refusal == 0 && r.complete == 0 && r.taken == 5 && r.length == 0 && at->received == 5 && at->sum == sum,
           "half a packet is waited for");
-    r = head_receive(&box.c, packet + 5, n - 5, out, sizeof out);
-    check(r.complete == 1 && r.taken == n - 5 && out[0] == IMJARLET_WRITE_RESPONSE && box.c.transfer.held == 5 &&
-              memcmp(box.c.receiver.hold, six, 5) == 0,
+    r = head_receive(&box.c, packet + 5, 3, out, sizeof out);
+    check(r.complete == 0 && memcmp(box.c.hold, six + 3, 2) == 0 && memcmp(box.c.buffer, six, 3) == 0 &&
+              box.c.buffer[3] == 0,
+          "a payload that is coming in leaves the held bytes");
+    r = head_receive(&box.c, packet + 8, n - 8, out, sizeof out);
+    check(r.complete == 1 && r.taken == n - 8 && out[0] == IMJARLET_WRITE_RESPONSE && at->transfer.held == 5 &&
+              memcmp(box.c.buffer, six, 5) == 0 && box.c.buffer[5] == 0,
           "an intermediate packet adds to the transfer");
     r = send(IMJARLET_HOST_WRITE, 0x01, 0x04, IMJARLET_LAST, six + 5, 1);
-    check(r.complete == 1 && out[0] == IMJARLET_WRITE_RESPONSE && box.c.transfer.active == 0 &&
-              box.c.settings.current.blue.counts == 0x03FF,
+    check(r.complete == 1 && out[0] == IMJARLET_WRITE_RESPONSE && at->transfer.active == 0 &&
+              at->settings.current.blue.counts == 0x03FF && box.c.buffer[5] == 0,
           "the last packet carries the transfer out");
+}
 
+static void read_where_written(void) {
+    imjarlet_registers *at = &box.c.registers;
+    controller was;
+    imjarlet_receipt r;
+    size_t n;
     /* a transfer that this program wrote */
     head_reset(&box.c);
-    box.c.transfer.active = 1;
-    box.c.transfer.cmd1 = 0x01;
-    box.c.transfer.cmd2 = 0x04;
-    box.c.transfer.held = 5;
-    memcpy(box.c.receiver.hold, six, 5);
+    at->transfer.active = 1;
+    at->transfer.cmd1 = 0x01;
+    at->transfer.cmd2 = 0x04;
+    at->transfer.held = 5;
+    memcpy(box.c.buffer, six, 5);
     send(IMJARLET_HOST_WRITE, 0x01, 0x04, IMJARLET_LAST, six + 5, 1);
-    check(out[0] == IMJARLET_WRITE_RESPONSE && box.c.settings.current.red.counts == 1 &&
-              box.c.settings.current.green.counts == 0x0102 && box.c.settings.current.blue.counts == 0x03FF,
+    check(out[0] == IMJARLET_WRITE_RESPONSE && at->settings.current.red.counts == 1 &&
+              at->settings.current.green.counts == 0x0102 && at->settings.current.blue.counts == 0x03FF,
           "a transfer lies where the header file says");
 
     /* a half-received packet that this program wrote: 01 01 with mode 2, one byte missing */
     head_reset(&box.c);
     n = make(IMJARLET_HOST_WRITE, 0x01, 0x01, IMJARLET_WHOLE, "\2", 1);
-    memcpy(box.c.receiver.header, packet, 6);
-    box.c.receiver.received = n - 1;
-    box.c.receiver.sum = packet[n - 1];
-    box.c.receiver.hold[0] = 2;
+    memcpy(at->header, packet, 6);
+    at->received = n - 1;
+    at->sum = packet[n - 1];
+    box.c.hold[0] = 2;
     r = head_receive(&box.c, packet + n - 1, 1, out, sizeof out);
-    check(r.complete == 1 && r.taken == 1 && out[0] == IMJARLET_WRITE_RESPONSE && box.c.settings.mode == 2,
+    check(r.complete == 1 && r.taken == 1 && out[0] == IMJARLET_WRITE_RESPONSE && at->settings.mode == 2,
           "a packet lies where the header file says");
 
-    /* the end of the hold, and of the controller */
+    /* a sum that this program wrote where nothing is half received */
     head_reset(&box.c);
-    memset(packet + 6, 0x5A, IMJARLET_HOLD);
-    {
-        static uint8_t full[IMJARLET_HOLD + 1];
-        memset(full, 0x5A, sizeof full);
-        send(IMJARLET_HOST_WRITE, 0x01, 0x04, IMJARLET_BEGINNING, full, IMJARLET_HOLD);
-        check(out[0] == IMJARLET_WRITE_RESPONSE && box.c.transfer.held == IMJARLET_HOLD &&
-                  memcmp(box.c.receiver.hold, full, IMJARLET_HOLD) == 0 && strips_untouched(),
-              "the hold has 1,024 bytes");
-        head_reset(&box.c);
-        check(draws(IMJARLET_CODE_LENGTH, IMJARLET_HOST_WRITE, 0x01, 0x04, IMJARLET_BEGINNING, full, IMJARLET_HOLD + 1) &&
-                  strips_untouched(),
-              "code 04");
-    }
+    at->sum = 0x77;
+    was = box.c;
+    r = head_receive(&box.c, packet, 0, out, sizeof out);
+    check(r.refusal == 0 && r.complete == 0 && r.taken == 0 && same_controller(&box.c, &was),
+          "no bytes leave the controller as it was");
+    r = head_receive(&box.c, packet, n, out, sizeof out);
+    check(r.complete == 1 && out[0] == IMJARLET_WRITE_RESPONSE && at->settings.mode == 2 && at->sum == 0,
+          "the sum begins anew with a packet's first byte");
+}
+
+/* The end of both arrays, and of the controller. */
+static void full_arrays(void) {
+    static uint8_t full[IMJARLET_HOLD + 1];
+    memset(full, 0x5A, sizeof full);
+    head_reset(&box.c);
+    send(IMJARLET_HOST_WRITE, 0x01, 0x04, IMJARLET_BEGINNING, full, IMJARLET_HOLD);
+    check(out[0] == IMJARLET_WRITE_RESPONSE && box.c.registers.transfer.held == IMJARLET_HOLD &&
+              memcmp(box.c.buffer, full, IMJARLET_HOLD) == 0 && memcmp(box.c.hold, full, IMJARLET_HOLD) == 0 &&
+              strips_untouched(),
+          "each array has 1,024 bytes");
+    head_reset(&box.c);
+    check(draws(IMJARLET_CODE_LENGTH, IMJARLET_HOST_WRITE, 0x01, 0x04, IMJARLET_BEGINNING, full, IMJARLET_HOLD + 1) &&
+              strips_untouched(),
+          "code 04");
 }
 
 static void codes_and_lengths(void) {
     static uint8_t long_out[IMJARLET_LIST_OUTPUT_LEAST];
-    settings s = head_fresh().settings;
+    settings s = head_fresh().registers.settings;
     imjarlet_receipt r;
     head_reset(&box.c);
     check(draws(IMJARLET_CODE_COMMAND, IMJARLET_HOST_WRITE, 0x09, 0x09, IMJARLET_WHOLE, NULL, 0), "code 02");
@@ -433,13 +457,13 @@ static size_t make_report(uint8_t version, uint8_t count, uint8_t score, uint8_t
 
 static int refused(size_t length, uint8_t number, size_t place) {
     imjarlet_verdict v = head_check_report(report, length);
-    settings factory = head_fresh().settings;
+    settings factory = head_fresh().registers.settings;
     return v.refusal == number && v.place == place && v.trial == 0 && v.score == 0 && same_settings(&v.settings, &factory);
 }
 
 static void reports(void) {
     static const uint8_t red[13] = {2, 1, 4, 0, 6, 0, 0x2C, 1, 0x12, 1, 0x12, 1, 0x60};
-    settings ends = head_fresh().settings;
+    settings ends = head_fresh().registers.settings;
     imjarlet_verdict v;
     size_t n;
     n = make_report(1, 2, 7, 1, red, 13);
@@ -477,7 +501,9 @@ int main(void) {
     fresh_and_reset();
     every_setting();
     out_of_rule();
-    transfer_and_receiver();
+    stored();
+    read_where_written();
+    full_arrays();
     codes_and_lengths();
     reports();
     check(strips_untouched(), "nothing beside the controller is touched");

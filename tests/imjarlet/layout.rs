@@ -35,8 +35,10 @@ fn print_layout() {
             input as "input", video as "video", sequence as "sequence", run as "run"
         }
         "transfer" Transfer { active as "active", cmd1 as "cmd1", cmd2 as "cmd2", held as "held" }
-        "receiver" Receiver { header as "header", sum as "sum", received as "received", hold as "hold" }
-        "controller" Controller { settings as "settings", transfer as "transfer", receiver as "receiver" }
+        "registers" Registers {
+            settings as "settings", transfer as "transfer", header as "header", sum as "sum", received as "received"
+        }
+        "controller" Controller { registers as "registers", buffer as "buffer", hold as "hold" }
         "receipt" raw::Receipt { refusal as "refusal", complete as "complete", taken as "taken", length as "length" }
         "emitted" raw::Emitted { refusal as "refusal", length as "length" }
         "verdict" raw::Verdict {
@@ -50,7 +52,7 @@ fn main() {
     let mut head = Controller::fresh();
     let fresh = head.clone();
     let mut out = [0xA5u8; LIST_OUTPUT_LEAST];
-    let mut settings = head.settings;
+    let mut settings = head.registers.settings;
     settings.current.green = Drive(1024);
     settings.sequence.exposure = Microseconds(70_000);
 
@@ -64,7 +66,7 @@ fn main() {
             other => panic!("{other:?}"),
         }
     }
-    assert_eq!(head.settings, settings);
+    assert_eq!(head.registers.settings, settings);
     head.reset();
     assert_eq!(head, fresh);
     for (i, byte) in list[..8].iter().enumerate() {
@@ -75,7 +77,7 @@ fn main() {
 
     // every refusal
     assert_eq!(head.receive(&list, &mut out[..OUTPUT_LEAST - 1]), Err(Refusal::ShortOutput));
-    head.transfer.held = HOLD + 1;
+    head.registers.transfer.held = HOLD + 1;
     assert_eq!(head.receive(&list, &mut out), Err(Refusal::OutOfRule));
     assert_eq!(encode(0x01, 0x04, &settings, &mut out), Ok(13));
     assert_eq!(encode(0x01, 0x05, &settings, &mut out), Err(Refusal::NotAllowed));

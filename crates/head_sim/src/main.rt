@@ -1,10 +1,10 @@
 // A simulated head: host bytes on standard input, responses on standard output, from a fresh head
 // until the input ends. Each packet is answered as soon as it is complete; one that the input leaves
 // unfinished is not answered. It stops when the output is closed or a read fails.
-use command::Answer;
 use command::Controller;
 use libc::STDIN_FILENO;
 use libc::STDOUT_FILENO;
+use packet::Answer;
 ghost use Prim.Native.Nat.{_≤_};
 ghost use lib.ListN.{length};
 

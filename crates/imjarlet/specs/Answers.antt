@@ -4,13 +4,13 @@ use mathlib.Core.Bool.{cond}
 use mathlib.Core.List.{List}
 use lib.Dec.{eqb, ltb}
 use lib.ListN.{length}
+use Rattle.packet.specs.Answer.{Outcome, Refuses, Waits, Answers}
 use Rattle.command.specs.Table.{commandOf}
 use Rattle.command.specs.Settings.{valuesOf, factory}
 use Rattle.command.specs.declared.settings.Settings.{Settings}
 use Rattle.command.specs.declared.table.Found.{Found}
 use Rattle.command.specs.declared.table.Found.the-variants.{Known, Unknown}
 use Rattle.command.specs.Value.{valueFrom}
-use Rattle.command.specs.Endpoint.{Outcome, Refuses, Waits, Answers}
 use Rattle.command.specs.Encoder as encoding
 use Rattle.report.specs.Report as tuning
 use Rattle.imjarlet.specs.declared.receipt.Receipt.{Receipt}

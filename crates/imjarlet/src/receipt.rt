@@ -1,9 +1,10 @@
 // A head at power-up, and the receive call over a controller that the caller lends.
-use command::Answer;
 use command::Controller;
+use packet::Answer;
 ghost use mathlib.Core.Path.{_≡_};
+ghost use Rattle.packet.specs.Answer.{outcomeOf};
 ghost use Rattle.command.specs.Controller.{fresh};
-ghost use Rattle.command.specs.Endpoint.{outcomeOf, receiveCall};
+ghost use Rattle.command.specs.Endpoint.{receiveCall};
 ghost use Rattle.imjarlet.specs.Answers.{receiptOf};
 
 // What a receive call answers.

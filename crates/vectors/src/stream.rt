@@ -5,8 +5,9 @@ use crate::said::Said;
 use crate::said::further;
 use crate::said::number;
 use crate::said::text;
-use command::Answer;
 use command::Controller;
+use packet::Answer;
+use packet::Next;
 ghost use Prim.Native.Nat.{_≤_};
 ghost use lib.ListN.{length};
 
@@ -16,7 +17,7 @@ const PLACES: usize = 1700;
 fn sizes(b: &[u8]) {
     let mut at: usize = 0;
     for _ in 0..b.len() {
-        let packet::Next::Packet(size) = packet::next_packet(b, at) else {
+        let Next::Packet { size, right: _ } = packet::next_packet(b, at) else {
             return;
         };
         number(b" ", size);
@@ -39,23 +40,24 @@ fn respond(said: Said, a: Answer, out: &[u8]) -> Said {
     said.bytes(b" ", out, length)
 }
 
-// The data of an open transfer stands at the start of the hold.
-fn transfer(said: Said, t: command::TransferState, r: packet::Receiver) -> Said {
+// The data of an open transfer stands at the start of its buffer.
+fn transfer(said: Said, t: command::TransferState, buffer: &[u8]) -> Said {
     if t.active == 0 {
         return said;
     }
     let code = [t.cmd1, t.cmd2];
-    let hold = r.hold;
     said.bytes(b"\ntransfer ", &code, 2)
-        .bytes(b" ", &hold, t.held)
+        .bytes(b" ", buffer, t.held)
 }
 
 fn finish(said: Said, c: Controller) -> Said {
     let unfinished = said.bytes(b"\nunfinished ", b"", 0);
-    let received = unfinished.hex(c.receiver.received as u64);
-    let told = transfer(received, c.transfer, c.receiver);
+    let registers = c.registers;
+    let buffer = c.buffer;
+    let received = unfinished.hex(registers.received as u64);
+    let told = transfer(received, registers.transfer, &buffer);
     let mut list = [0u8; command::LIST_OUTPUT];
-    match command::standard_list(c.settings, &mut list) {
+    match command::standard_list(registers.settings, &mut list) {
         command::Encoded::Length(length) => told.bytes(b"\nlist ", &list, length),
         _ => told,
     }

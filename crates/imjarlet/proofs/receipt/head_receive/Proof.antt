@@ -2,14 +2,15 @@
 use mathlib.Core.Path.{_≡_, refl, ap, _∙_}
 use denote.Struct.Laws.{tells, owed}
 use Rattle.packet.proofs.Lending.{Call, struct-held, enum-held, lending, steps}
-use Rattle.command.specs.Endpoint.{outcomeOf, receiveCall}
+use Rattle.packet.specs.Answer.{outcomeOf}
+use Rattle.command.specs.Endpoint.{receiveCall}
 use Rattle.imjarlet.specs.Answers.{receiptOf}
 use Rattle.command.proofs.controller.Controller as T
 use Rattle.command.proofs.controller.Controller.Laws as T′
 use Rattle.command.proofs.endpoint.Step as S
 use Rattle.command.proofs.endpoint.Step.Laws as S′
-use Rattle.command.proofs.endpoint.Answer as N
-use Rattle.command.proofs.endpoint.Answer.Laws as N′
+use Rattle.packet.proofs.answer.Answer as N
+use Rattle.packet.proofs.answer.Answer.Laws as N′
 use Rattle.imjarlet.proofs.receipt.Receipt as E
 use Rattle.imjarlet.proofs.receipt.Receipt.Laws as E′
 use Rattle.command.proofs.receive.Symbol as receive
