@@ -9,7 +9,7 @@ use lib.Dec.{eqb, ltb, leb}
 use lib.ListN.{length}
 use borrow.Author.Tests.{le-ltb, lt-leb, leb-false, ltb-true, ltb-false, ne-eqb, eqb-true, eqb-false, not-true, not-false}
 use Rattle.packet.specs.Packet.{payloadLength}
-use Rattle.packet.specs.Answer.{Refuses, Waits, Answers}
+use Rattle.packet.specs.Answer.{Refuses, Waits, Answers, Answering}
 use Rattle.packet.specs.Receiver.{Received, missing, waiting as receiverWaiting, completed, receiving, packetInRule}
 use Rattle.packet.proofs.Cases.{bool-cases, cond-cases, and-left, and-right, or-left, or-right}
 use Rattle.command.specs.Table.{table, commandOf, isKnown}
@@ -20,7 +20,7 @@ use Rattle.command.specs.Controller.{receiverIn, transferInRule, registe
 use Rattle.command.specs.Endpoint.{takenBy, responseIn, After, refused, waiting, answered, receiveCall}
 use Rattle.command.specs.Encoder.{encoded, standardList, encodeCall, listCall}
 use Rattle.command.specs.Encoder as encoder
-use Rattle.command.specs.Demand1.{SettingsOutOfRule, SettingNotAllowed, RunsOutsideMode, OutOfRule, BadSettings, HeldTooLong, OpenForUnknown, HasAllBytes, Answering}
+use Rattle.command.specs.Demand1.{SettingsOutOfRule, SettingNotAllowed, RunsOutsideMode, OutOfRule, BadSettings, HeldTooLong, OpenForUnknown, HasAllBytes}
 use Rattle.command.specs.declared.table.Command.{Command}
 use Rattle.command.specs.declared.settings.Settings.{Settings}
 use Rattle.command.specs.declared.value.Value.{Value}

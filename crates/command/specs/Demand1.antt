@@ -7,7 +7,7 @@ use mathlib.Core.Logic.{_↔_, _⊎_}
 use mathlib.Core.Bool.{false, cond}
 use mathlib.Core.List.{List, [], _∷_, _++_, List·Memᴰ}
 use lib.ListN.{length, take, getD}
-use Rattle.packet.specs.Answer.{Refuses, Waits, Answers}
+use Rattle.packet.specs.Answer.{Refuses, Waits, Answers, Answering}
 use Rattle.packet.specs.Packet.{typeOf, cmd1Of, cmd2Of, payloadLength, checksum, packetOf, error, hostWrite, hostRead, writeResponse, readResponse, whole, beginning, intermediate, last}
 use Rattle.packet.specs.Stream.{packets}
 use Rattle.packet.specs.Writer.{written}
@@ -161,19 +161,6 @@ pub data OutOfRule (c : Controller) : Type 0 where
       → OutOfRule c
   -- or a half-received packet that already has all its bytes
   HasAllBytes : 7 + payloadLength (c .registers .header) ≤ c .registers .received → OutOfRule c
-
--- How a call answers that is lent the output `out`; `Refused n` says that it answers refusal n. In the order of the table:
-pub record Answering (Refused : ℕ → Type 0) (out : List ℕ) (shortest second : ℕ) (Holds Untouched Answered : Type 0) : Type 0 where
-  -- 1 exactly when the output is shorter than this
-  pub short : Refused 1 ↔ (length out < shortest)
-  -- its second number exactly when it is not shorter and `Holds`
-  pub other : Refused second ↔ ((shortest ≤ length out) × Holds)
-  -- no other number
-  pub only : (n : ℕ) → Refused n → (n ≡ 1) ⊎ (n ≡ second)
-  -- a refusal touches nothing lent
-  pub untouched : (n : ℕ) → Refused n → Untouched
-  -- and where nothing is refused the call is answered
-  pub answers : shortest ≤ length out → (Holds → ⊥) → Answered
 
 pub record Demand1 : Type 0 where
   -- "A bad packet gets the error packet its faults call for": that one and no other, and no packet besides gets one

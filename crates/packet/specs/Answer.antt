@@ -1,8 +1,10 @@
 -- What a receive call answers, in the numbers of document 01: a refusal's number; "waiting" and the bytes taken; "answered", the bytes taken and the response's length.
-use Prim.Native.Nat.{ℕ}
+use Prim.Native.Nat.{ℕ, _<_, _≤_}
+use mathlib.Core.Path.{_≡_}
+use mathlib.Core.Logic.{_↔_, _⊎_}
 use mathlib.Core.List.{List}
 use mathlib.Core.Option.{Option, none, some}
-use lib.ListN.{take}
+use lib.ListN.{length, take}
 use Rattle.packet.specs.declared.answer.Answer.{Answer}
 use Rattle.packet.specs.declared.answer.Answer.the-variants.{Waiting, Answered, ShortOutput, OutOfRule}
 
@@ -28,3 +30,16 @@ abbrev pub responseOf : Outcome → List ℕ → Option (List ℕ)
 responseOf (Refuses n) out = none
 responseOf (Waits n) out = none
 responseOf (Answers n m) out = some (take m out)
+
+-- How a call answers that is lent the output `out`; `Refused n` says that it answers refusal n. In the order of the table:
+pub record Answering (Refused : ℕ → Type 0) (out : List ℕ) (shortest second : ℕ) (Holds Untouched Answered : Type 0) : Type 0 where
+  -- 1 exactly when the output is shorter than this
+  pub short : Refused 1 ↔ (length out < shortest)
+  -- its second number exactly when it is not shorter and `Holds`
+  pub other : Refused second ↔ ((shortest ≤ length out) × Holds)
+  -- no other number
+  pub only : (n : ℕ) → Refused n → (n ≡ 1) ⊎ (n ≡ second)
+  -- a refusal touches nothing lent
+  pub untouched : (n : ℕ) → Refused n → Untouched
+  -- and where nothing is refused the call is answered
+  pub answers : shortest ≤ length out → (Holds → ⊥) → Answered
