@@ -1,6 +1,7 @@
 // Playing bytes from given settings, with no transfer open.
 use crate::carry::settings_after;
 use crate::carry::transfer_after;
+use crate::judgement::Judgement;
 use crate::judgement::judge;
 use crate::response::response_type;
 use crate::rules::settings_in_rule;
@@ -16,39 +17,18 @@ ghost use Prim.Native.Nat.{_≤_};
 ghost use lib.ListN.{length};
 ghost use Rattle.packet.specs.Packet.{rightSum};
 ghost use Rattle.packet.specs.Stream.{size};
-ghost use Rattle.command.specs.Controller.{transferInRule};
-ghost use Rattle.command.specs.Inner.{stateIn};
-ghost use Rattle.command.specs.Response.{acknowledged as acknowledgedOf};
-ghost use Rattle.command.specs.Player.{endSettings, endClean, judged, next};
+ghost use Rattle.command.specs.Faults.{arrived};
+ghost use Rattle.command.specs.Judgement.{judge as judgeOf};
+ghost use Rattle.command.specs.Controller.{transferIn, transferInRule};
+ghost use Rattle.command.specs.Player.{endSettings, endClean};
 
-// The settings and the transfer after a packet, and whether it was acknowledged.
-struct Turn {
-    settings: Settings,
-    transfer: TransferState,
-    acknowledged: bool,
-}
-
-// One whole packet, its checksum right or not: it is judged, and the judgement carried out.
-fn play_packet(
-    s: Settings,
-    t: TransferState,
-    buffer: &mut [u8; HOLD],
-    p: &[u8],
-    right: bool,
-) -> Turn
-    requires { ⌜ (7 ≤ length (now p)) × (length (now p) ≤ 65542) × (size (now p) ≡ length (now p)) × (right ≡ rightSum (now p)) × (transferInRule t ≡ true) ⌝ }
-    ensures { λ r. ⌜ (stateIn (r .settings) (r .transfer) (now (buffer .exit)) ≡ next (stateIn s t (now (buffer .entry))) (now (p .entry)))
-        × (r .acknowledged ≡ acknowledgedOf (judged (stateIn s t (now (buffer .entry))) (now (p .entry))))
-        × (transferInRule (r .transfer) ≡ true) ⌝ }
+// One whole packet, its checksum right or not.
+fn judge_packet(mode: u8, t: TransferState, buffer: &[u8], p: &[u8], right: bool) -> Judgement
+    requires { ⌜ (7 ≤ length (now p)) × (length (now p) ≤ 65542) × (size (now p) ≡ length (now p)) × (right ≡ rightSum (now p)) × (transferInRule t ≡ true) × (length (now buffer) ≡ 1024) ⌝ }
+    ensures { λ j. ⌜ j ≡ judgeOf mode (transferIn t (now (buffer .entry))) (arrived (now (p .entry))) ⌝ }
 {
     let header = [p[0], p[1], p[2], p[3], p[4], p[5]];
-    let payload = &p[HEADER..p.len() - 1];
-    let j = judge(s.mode, t, header, right, buffer, payload);
-    Turn {
-        settings: settings_after(s, j),
-        transfer: transfer_after(t, buffer, payload, j),
-        acknowledged: response_type(j) == packet::WRITE_RESPONSE,
-    }
+    judge(mode, t, header, right, buffer, &p[HEADER..p.len() - 1])
 }
 
 // Where a play ended: the settings, and whether each packet was acknowledged and nothing was left
@@ -80,10 +60,11 @@ pub fn play(s: Settings, b: &[u8]) -> Played
                 clean: false,
             };
         };
-        let after = play_packet(settings, transfer, &mut buffer, &b[at..at + size], right);
-        settings = after.settings;
-        transfer = after.transfer;
-        acknowledged = acknowledged & after.acknowledged;
+        let p = &b[at..at + size];
+        let j = judge_packet(settings.mode, transfer, &buffer, p, right);
+        acknowledged = acknowledged & (response_type(j) == packet::WRITE_RESPONSE);
+        settings = settings_after(settings, j);
+        transfer = transfer_after(transfer, &mut buffer, &p[HEADER..size - 1], j);
         at += size;
     }
     let clean = acknowledged & (transfer.active == 0);

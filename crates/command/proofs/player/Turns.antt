@@ -14,7 +14,7 @@ use Rattle.command.specs.Faults.{Arrived, arrived}
 use Rattle.command.specs.Response.{acknowledged}
 use Rattle.command.specs.Transfer.{Transfer, isOpen}
 use Rattle.command.specs.Judgement.{judge}
-use Rattle.command.specs.Carry.{settingsAfter}
+use Rattle.command.specs.Carry.{settingsAfter, transferAfter}
 use Rattle.command.specs.Controller.{heldIn, transferIn, transferInRule, packetIn, transferStateAfter, bufferAfter}
 use Rattle.command.specs.Inner.{stateIn}
 use Rattle.command.specs.Player.{State, from, judged, next, judgements, after, play, allAcknowledged, isNil, clean}
@@ -25,7 +25,7 @@ use Rattle.command.proofs.transfer.Laws.{held-length}
 use Rattle.command.proofs.carry.Laws.{Bounded, bounded, transfer-kept, carried-transfer}
 
 -- A packet of bytes, its fields at their places, is what is judged.
-packet-parts : (p : List ℕ) (right : Bool) → size p ≡ length p → right ≡ rightSum p → {body : List ℕ} → body ≡ take (length p - 1 - 6) (drop 6 p)
+pub packet-parts : (p : List ℕ) (right : Bool) → size p ≡ length p → right ≡ rightSum p → {body : List ℕ} → body ≡ take (length p - 1 - 6) (drop 6 p)
     → packetIn (getD p 0 0 ∷ getD p 1 0 ∷ getD p 2 0 ∷ getD p 3 0 ∷ getD p 4 0 ∷ getD p 5 0 ∷ []) right body ≡ arrived p
 unfolding size payload
 packet-parts p right e r b =
@@ -37,38 +37,32 @@ module _
     (s : Settings)
     (t : TransferState)
     (buffer p : List ℕ)
-    {right : Bool}
-    {body : List ℕ}
     {j : Judgement}
+    {body : List ℕ}
     (r : transferInRule t ≡ true)
     (n : length buffer ≡ 1024)
     (w : size p ≡ length p)
-    (er : right ≡ rightSum p)
     (eb : body ≡ take (length p - 1 - 6) (drop 6 p))
-    (ej : j ≡ judge (s .mode) (transferIn t buffer) (packetIn (getD p 0 0 ∷ getD p 1 0 ∷ getD p 2 0 ∷ getD p 3 0 ∷ getD p 4 0 ∷ getD p 5 0 ∷ []) right body)) where
-  seen : packetIn (getD p 0 0 ∷ getD p 1 0 ∷ getD p 2 0 ∷ getD p 3 0 ∷ getD p 4 0 ∷ getD p 5 0 ∷ []) right body ≡ arrived p
-  seen = packet-parts p right w er eb
-
-  pub judged-packet : j ≡ judged (stateIn s t buffer) p
-  unfolding judged
-  judged-packet = ej ∙ ap (judge (s .mode) (transferIn t buffer)) seen
-
-  fits : Bounded (heldIn t + payloadLength p) (judged (stateIn s t buffer) p)
-  unfolding judged
-  fits = rw (held-length t r buffer n) at (bounded (s .mode) (transferIn t buffer) (arrived p))
+    (ej : j ≡ judge (s .mode) (transferIn t buffer) (arrived p)) where
+  fits : Bounded (heldIn t + payloadLength p) j
+  fits = rw ej (rw (held-length t r buffer n) at (bounded (s .mode) (transferIn t buffer) (arrived p)))
 
   same-body : body ≡ payload p
-  same-body = ap (λ (q : Arrived). q .body) seen
+  unfolding size payload
+  same-body =
+      let m : length p - 1 - 6 ≡ payloadLength p = omega arith in
+      rw (eb, m)
 
   pub next-packet : stateIn (settingsAfter s j) (transferStateAfter t body j) (bufferAfter t buffer body j) ≡ next (stateIn s t buffer) p
-  unfolding next
+  unfolding next judged
   next-packet =
-      rw (same-body, judged-packet)
-      (ap (λ (x : Transfer). record { settings = settingsAfter s (judged (stateIn s t buffer) p); transfer = x })
-      (carried-transfer t buffer (payload p) (arrived p) (judged (stateIn s t buffer) p) r n (payload-length p w) (λ _. refl) fits))
+      rw (same-body)
+      (ap (λ (x : Transfer). record { settings = settingsAfter s j; transfer = x })
+      (carried-transfer t buffer (payload p) (arrived p) j r n (payload-length p w) (λ _. refl) fits)
+      ∙ ap (λ (x : Judgement). record { settings = settingsAfter s x; transfer = transferAfter (transferIn t buffer) (arrived p) x }) ej)
 
   pub rule-kept : transferInRule (transferStateAfter t body j) ≡ true
-  rule-kept = rw (same-body, judged-packet) (transfer-kept t (payload p) (payloadLength p) (judged (stateIn s t buffer) p) (omega (arith, payload-length p w)) r fits)
+  rule-kept = rw same-body (transfer-kept t (payload p) (payloadLength p) j (omega (arith, payload-length p w)) r fits)
 
 -- The bytes up to `at` were played from s, and left the state a; `good` tells whether each packet so far was acknowledged.
 pub record Going (s : Settings) (b : List ℕ) (a : State) (good : Bool) (at : ℕ) : Type 0 where

@@ -18,13 +18,15 @@ use Rattle.command.specs.Controller.{transferIn, transferInRule}
 use Rattle.command.specs.Transfer.{isOpen}
 use Rattle.command.specs.Inner.{stateIn}
 use Rattle.command.proofs.transfer.Laws.{open-is}
-use Rattle.command.proofs.player.Turns.{Going, Turned, going-start, going-packet, going-stop, going-done}
+use Rattle.command.specs.Player.{judged}
+use Rattle.command.proofs.carry.Laws.{buffer-kept}
+use Rattle.command.proofs.player.Turns.{Going, Turned, going-start, going-packet, going-stop, going-done, next-packet, rule-kept}
 use Rattle.command.proofs.player.play.Statement.{statement}
 use Rattle.command.proofs.player.play.Tie as tie
 
 abbrev Inv-loop : tie.InvT-loop
 Inv-loop b settings₀ transfer₀ buffer₀ acknowledged₀ at₀ settings transfer buffer acknowledged at =
-    (at ≤ length b) × (transferInRule transfer ≡ true) × Going settings₀ b (stateIn settings transfer buffer) acknowledged at
+    (at ≤ length b) × (transferInRule transfer ≡ true) × (length buffer ≡ 1024) × Going settings₀ b (stateIn settings transfer buffer) acknowledged at
 
 abbrev μ-loop : tie.MeasureT-loop
 μ-loop b settings₀ transfer₀ buffer₀ acknowledged₀ at₀ settings transfer buffer acknowledged at = length b - at
@@ -42,13 +44,13 @@ loop-holds : tie.Need-loop-holds Inv-loop μ-loop
 unfolding transferInRule
 loop-holds c =
     let a = c .before .before .before .args in
-    (omega arith, refl, going-start (a .s) (now (a .b)))
+    (omega arith, refl, refl, going-start (a .s) (now (a .b)))
 
 -- too few bytes for a packet
 returns-2 : tie.Need-returns-2 Inv-loop μ-loop
 returns-2 c =
     let l = c .before .before .before .before in
-    rw (ruled (l .before)) (going-stop (l .loop .inv .2) (sym (c .before .before .next-packet .ensures) ∙ c .enum-told .given .1) (c .before .before .before .loop-test .taken))
+    rw (ruled (l .before)) (going-stop (l .loop .inv .3) (sym (c .before .before .next-packet .ensures) ∙ c .enum-told .given .1) (c .before .before .before .loop-test .taken))
 
 -- the packet that stands at the place, and the play after it
 turn : (c : tie.After-size Inv-loop μ-loop)
@@ -58,7 +60,7 @@ turn : (c : tie.After-size Inv-loop μ-loop)
     (c .size .given .0 .0) (c .size .given .0 .1 .0)
 turn c =
     let l = c .before .before .before .before in
-    going-packet (l .loop .inv .2) (c .size .given .0 .0) (c .size .given .0 .1 .0) (sym (c .before .before .next-packet .ensures) ∙ c .size .given .1) (l .loop .inv .0)
+    going-packet (l .loop .inv .3) (c .size .given .0 .0) (c .size .given .0 .1 .0) (sym (c .before .before .next-packet .ensures) ∙ c .size .given .1) (l .loop .inv .0)
 
 -- all of it is in the slice
 within : (c : tie.After-size Inv-loop μ-loop)
@@ -80,36 +82,65 @@ handed c =
     let e : l .loop .at + c .size .given .0 .0 - l .loop .at ≡ c .size .given .0 .0 = omega arith in
     ap (λ (n : ℕ). take n (drop (l .loop .at) b)) e
 
-part-play-packet-end : tie.Need-part-play-packet-end Inv-loop μ-loop
-part-play-packet-end c = let h = turn (c .before .before) .within in omega arith
+-- it has as many bytes as it says, at most 65,542
+counted : (c : tie.After-size Inv-loop μ-loop)
+    → let l = c .before .before .before .before in
+    let p = take (c .size .given .0 .0) (drop (l .loop .at) (now (l .before .before .before .before .args .b))) in
+    (length p ≡ c .size .given .0 .0) × (length p ≤ 65542)
+counted c =
+    let l = c .before .before .before .before in
+    let b = now (l .before .before .before .before .args .b) in
+    let t = turn c in
+    let n = length-take-le (c .size .given .0 .0) (drop (l .loop .at) b) (omega (arith, t .within, length-drop (l .loop .at) b)) in
+    let m : size (take (c .size .given .0 .0) (drop (l .loop .at) b)) ≤ 65542 =
+    size-most _ (bytes-take (c .size .given .0 .0) _ (bytes-drop (l .loop .at) b (bytes-at b (λ i. l .before .before .before .shared-slice-known .given i .fits)))) in
+    (n, omega (arith, m, t .whole))
 
-play-packet-requires : tie.Need-play-packet-requires Inv-loop μ-loop
-play-packet-requires c κs =
+-- the packet, seen from where its payload is handed on
+abbrev part : tie.After-buffer2 Inv-loop μ-loop → tie.After-size Inv-loop μ-loop
+part c = c .before .before .before .before .before .before .before
+
+judge-packet-requires : tie.Need-judge-packet-requires Inv-loop μ-loop
+judge-packet-requires c κs =
     let k = c .before .before .before in
     let l = k .before .before .before .before in
     let t = turn k in
-    let s = l .before .before .before .before in
-    let b = now (s .args .b) in
-    let n : length (take (k .size .given .0 .0) (drop (l .loop .at) b)) ≡ k .size .given .0 .0 = length-take-le _ _ (omega (arith, t .within, length-drop (l .loop .at) b)) in
-    let m : size (take (k .size .given .0 .0) (drop (l .loop .at) b)) ≤ 65542 =
-    size-most _ (bytes-take (k .size .given .0 .0) _ (bytes-drop (l .loop .at) b (bytes-at b (λ i. l .before .before .before .shared-slice-known .given i .fits)))) in
-    rw (handed k) (omega (arith, n, t .least), omega (arith, m, t .whole), t .whole, t .sum, l .loop .inv .1)
+    let n = counted k in
+    rw (handed k) (omega (arith, n .0, t .least), n .1, t .whole, t .sum, l .loop .inv .1, l .loop .inv .2)
+
+transfer-after-requires : tie.Need-transfer-after-requires Inv-loop μ-loop
+transfer-after-requires c κs =
+    let k = c .before .before .before .before .before .before .before .before in
+    let l = k .before .before .before .before in
+    let n = counted k in
+    let p = take (k .size .given .0 .0) (drop (l .loop .at) (now (l .before .before .before .before .args .b))) in
+    rw (handed k) (l .loop .inv .1, omega (arith, n .0, n .1, length-take-le (k .size .given .0 .0 - 1 - 6) (drop 6 p) (omega (arith, n .0, length-drop 6 p))))
 
 loop-again : tie.Need-loop-again Inv-loop μ-loop
+unfolding judged
 loop-again c =
-    let p = c .before .before .before in
-    let k = p .before .before .before .before in
+    let g = c .before .before .before .before .before in
+    let k = g .before .before .before .before in
     let l = k .before .before .before .before in
-    let b = now (l .before .before .before .before .args .b) in
+    let o = l .loop in
     let t = turn k in
-    let e : take (l .loop .at + k .size .given .0 .0 - l .loop .at) (drop (l .loop .at) b) ≡ take (k .size .given .0 .0) (drop (l .loop .at) b) = handed k in
-    (t .within, p .play-packet .ensures .2, rw (p .play-packet .ensures .0, p .play-packet .ensures .1, e) (t .going))
+    let p = take (k .size .given .0 .0) (drop (l .loop .at) (now (l .before .before .before .before .args .b))) in
+    let j = rw (handed k) at (g .judge-packet .ensures) in
+    let x = rw (handed k) at (c .transfer-after .ensures .0) in
+    let y = rw (handed k) at (c .transfer-after .ensures .1) in
+    let f = ap (λ (i : ℕ). take (i - 1 - 6) (drop 6 p)) (sym (counted k .0)) in (
+      t .within,
+      rw x (rule-kept (o .settings) (o .transfer) (o .buffer) p (o .inv .1) (o .inv .2) (t .whole) f j),
+      rw y (buffer-kept (o .transfer) (o .buffer) _ (g .judge-packet .result) ∙ o .inv .2),
+      rw (c .before .before .before .settings-after .ensures, x, y, next-packet (o .settings) (o .transfer) (o .buffer) p (o .inv .1) (o .inv .2) (t .whole) f j, c .before .before .before .before .response-type .ensures, j)
+          (t .going),
+    )
 
 returns-3 : tie.Need-returns-3 Inv-loop μ-loop
 returns-3 c =
     let l = c .before .before in
     let a = l .before .before .before .before .args in
-    let g = going-done (l .loop .inv .2) (omega arith) in
+    let g = going-done (l .loop .inv .3) (omega arith) in
     let o : not (isOpen (transferIn (l .loop .transfer) (l .loop .buffer))) ≡ eqb (l .loop .transfer .active) 0 =
     ap not (open-is (l .loop .transfer) (l .loop .inv .1) (l .loop .buffer)) ∙ Bool·not-not (eqb (l .loop .transfer .active) 0) in
     rw (ruled (l .before), ← o) g
@@ -118,7 +149,13 @@ pub play-spec : {M : Type 1} → statement M
 play-spec =
     tie.close
     (tie.spec Inv-loop μ-loop (λ c κs. search needs) returns loop-holds (λ c κs. search needs) (λ c. search needs)
-    (λ c. search needs) returns-2 (λ c. omega (arith, within (c .before .before))) (λ c. search needs) (λ c. search needs) part-play-packet-end
-    play-packet-requires (λ c. omega (arith, within (c .before .before .before .before .before .before .before)))
-    (λ c. let t = turn (c .before .before .before .before .before .before .before) in omega (arith, t .least, t .within)) loop-again
+    (λ c. search needs) returns-2
+    (λ c. omega (arith, within (c .before))) (λ c. search needs) (λ c. search needs)
+    (λ c. let h = turn (c .before) .within in omega arith)
+    (λ c. let l = c .before .before .before .before .before .before .before in omega (arith, l .loop .inv .2))
+    judge-packet-requires (λ c κs. search needs) (λ c κs. search needs)
+    (λ c. omega (arith, turn (part c) .least)) (λ c. omega (arith, turn (part c) .least)) (λ c. omega (arith, turn (part c) .least))
+    (λ c. let h = counted (part c) .0 in rw (handed (part c)) (omega (arith, turn (part c) .least, h)))
+    transfer-after-requires (λ c. omega (arith, within (c .before .before .before .before .before .before .before .before .before)))
+    (λ c. let t = turn (c .before .before .before .before .before .before .before .before .before) in omega (arith, t .least, t .within)) loop-again
     returns-3)
