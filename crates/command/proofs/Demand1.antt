@@ -7,7 +7,7 @@ use mathlib.Core.List.{List, [], _∷_, _++_}
 use native.Mathlib.Omega.{arith}
 use lib.Dec.{ltb}
 use lib.ListN.{length, take, drop, getD, length-append}
-use lib.Seq.{take-at}
+use lib.Seq.{take-at, drop-at}
 use borrow.Author.Tests.{ne-eqb, eqb-false}
 use Rattle.packet.specs.Packet.{packetOf, error, whole, writeResponse, readResponse, typeOf, payloadLength, rightSum, checksum, header, sealed}
 use Rattle.packet.specs.Answer.{Refuses, Waits, Answers}
@@ -22,11 +22,11 @@ use Rattle.command.specs.Faults.{Arrived, arrived, codesOf}
 use Rattle.command.specs.Judgement.{judge}
 use Rattle.command.specs.Carry.{settingsAfter, transferAfter}
 use Rattle.command.specs.Response.{responseType, codesIn, response}
-use Rattle.command.specs.Player.{State, from, judged, next, judgements, after}
+use Rattle.command.specs.Player.{State, from, judged, next, judgements, after, endSettings, endClean}
 use Rattle.command.specs.Controller.{stateOf, transferStateAfter, inRule}
 use Rattle.command.specs.Endpoint.{takenBy, arrivedIn, judgedIn, responseIn, After, answered, receiveCall}
 use Rattle.command.specs.Sending.{Sending, sentTo, Boundary}
-use Rattle.command.specs.Demand1.{DrawsOn, errorPacket, ErrorSent, acceptedWrites, storeAll, AllBad, NoPacket, BadPacket, Demand1}
+use Rattle.command.specs.Demand1.{SettingsOutOfRule, DrawsOn, errorPacket, ErrorSent, acceptedWrites, storeAll, AllBad, NoPacket, BadPacket, Demand1}
 use Rattle.command.specs.declared.settings.Settings.{Settings}
 use Rattle.command.specs.declared.judgement.Judgement.{Judgement}
 use Rattle.command.specs.declared.judgement.Judgement.the-variants.{Error, Hold, Write, Read}
@@ -34,7 +34,7 @@ use Rattle.command.specs.declared.transfer.TransferState.{TransferState}
 use Rattle.command.specs.declared.controller.Controller.{Controller}
 use Rattle.command.proofs.judgement.Called.{IsError, exactly-called}
 use Rattle.command.proofs.endpoint.Boundary.{follows-played}
-use Rattle.command.proofs.Refusals.{receive-refuses, encode-refuses, list-refuses}
+use Rattle.command.proofs.Refusals.{settings-out, receive-refuses, encode-refuses, list-refuses}
 
 -- The bytes of the response.
 
@@ -144,6 +144,27 @@ module _ (c : Controller) (input out : List ℕ) where
       same-answer : {k l : ℕ} → Answers n m ≡ Answers k l → m ≡ l
       same-answer e = cc
 
+  -- what a call leaves that completes no packet, and what stands behind the response of one that does
+  left-waiting : (n : ℕ) → receiveCall c input out .answer ≡ Waits n
+      → (receiveCall c input out .output ≡ out) × (stateOf (receiveCall c input out .controller) ≡ stateOf c)
+  unfolding receiveCall
+  left-waiting n =
+      let P : After → Type 0 = λ x. x .answer ≡ Waits n → (x .output ≡ out) × (stateOf (x .controller) ≡ stateOf c) in
+      cond-cases P (ltb (length out) 64) (λ _ h. refuses h)
+      (λ _. cond-cases P (inRule c) (λ _. cond-cases P (received .complete) (λ _ h. answers h) (λ _ h. (refl, refl))) (λ _ h. refuses h))
+    where
+      refuses : {P : Type 0} {k : ℕ} → Refuses k ≡ Waits n → P
+      refuses h = let z : _≡_ {A = ℕ} 0 1 = cc in absurd (omega arith)
+
+      answers : {P : Type 0} {k m : ℕ} → Answers k m ≡ Waits n → P
+      answers h = let z : _≡_ {A = ℕ} 0 1 = cc in absurd (omega arith)
+
+  left-behind : (n m : ℕ) → receiveCall c input out .answer ≡ Answers n m → drop m (receiveCall c input out .output) ≡ drop m out
+  unfolding written
+  left-behind n m h =
+      let r = responseIn c received in
+      rw (answers-by n m h, answer-length n m h) (drop-at r (drop (length r) out) (length r) refl)
+
   error-sent : (n m : ℕ) → receiveCall c input out .answer ≡ Answers n m → typeOf (receiveCall c input out .output) ≡ error → ErrorSent c input out m
   unfolding responseIn judgedIn written response packetOf sealed
   error-sent n m h b =
@@ -201,6 +222,10 @@ bad-stream {a} (BadPacket {q = q} codes d r) = bad-stream r ∙ ap (λ (x : Stat
 sent-settings : (c : Controller) (b : List ℕ) (s : Sending b) → Boundary c → sentTo c s .state .registers .settings ≡ after (stateOf c) (packets b) .settings
 sent-settings c b s k = ap (λ (a : State). a .settings) (follows-played c b s k .ends)
 
+-- settings out of rule are not played
+not-played : (s : Settings) (b : List ℕ) → SettingsOutOfRule s → (endSettings s b ≡ s) × (endClean s b ≡ false)
+not-played s b h = rw (settings-out s .1 h) (refl, refl)
+
 -- Demand 1, whole.
 pub demand1 : Demand1
 demand1 =
@@ -211,9 +236,12 @@ demand1 =
       leaves = bad-leaves;
       sent = error-sent;
       owed = error-owed;
+      waits = left-waiting;
+      behind = left-behind;
       stream = λ c b s k. sent-settings c b s k ∙ stream-stores (stateOf c) (packets b);
       badStream = λ c b s k d. sent-settings c b s k ∙ bad-stream d;
       receive = receive-refuses;
+      play = not-played;
       encode = λ v out. encode-refuses out v;
       list = λ s out. list-refuses out s;
     }

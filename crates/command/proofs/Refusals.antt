@@ -69,7 +69,7 @@ unfolding allAllowed
 one-not-allowed s [] h = never (sym h)
 one-not-allowed s (c ∷ cs) h = and-cases (allowed c (valuesOf c s)) (allAllowed s cs) (SettingNotAllowed c) (one-not-allowed s cs) h
 
-settings-out : (s : Settings) → (settingsInRule s ≡ false) ↔ SettingsOutOfRule s
+pub settings-out : (s : Settings) → (settingsInRule s ≡ false) ↔ SettingsOutOfRule s
 settings-out s = (forth, back)
   where
     forth : settingsInRule s ≡ false → SettingsOutOfRule s

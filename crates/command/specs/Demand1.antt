@@ -6,7 +6,7 @@ use mathlib.Core.Path.{_≡_}
 use mathlib.Core.Logic.{_↔_, _⊎_}
 use mathlib.Core.Bool.{false, cond}
 use mathlib.Core.List.{List, [], _∷_, _++_, List·Memᴰ}
-use lib.ListN.{length, take, getD}
+use lib.ListN.{length, take, drop, getD}
 use Rattle.packet.specs.Answer.{Refuses, Waits, Answers, Answering}
 use Rattle.packet.specs.Packet.{typeOf, cmd1Of, cmd2Of, payloadLength, checksum, packetOf, error, hostWrite, hostRead, writeResponse, readResponse, whole, beginning, intermediate, last}
 use Rattle.packet.specs.Stream.{packets}
@@ -19,7 +19,7 @@ use Rattle.command.specs.Value.{commandIn, valuesIn}
 use Rattle.command.specs.Transfer.{Transfer, Closed, Opened, held}
 use Rattle.command.specs.Faults.{Arrived, arrived}
 use Rattle.command.specs.Response.{response}
-use Rattle.command.specs.Player.{State, from, judged, next, judgements}
+use Rattle.command.specs.Player.{State, from, judged, next, judgements, endSettings, endClean}
 use Rattle.command.specs.Controller.{stateOf}
 use Rattle.command.specs.Endpoint.{takenBy, arrivedIn, responseIn, receiveCall}
 use Rattle.command.specs.Encoder.{encoded, standardList, encodeCall, listCall}
@@ -180,6 +180,11 @@ pub record Demand1 : Type 0 where
   pub owed : (c : Controller) (input out codes : List ℕ) (n m : ℕ) → receiveCall c input out .answer ≡ Answers n m
       → DrawsOn (stateOf c) (arrivedIn (takenBy c input)) codes
       → take m (receiveCall c input out .output) ≡ errorPacket (arrivedIn (takenBy c input)) codes
+  -- a call that completes no packet leaves the output, the settings and the transfer, whatever the controller
+  pub waits : (c : Controller) (input out : List ℕ) (n : ℕ) → receiveCall c input out .answer ≡ Waits n
+      → (receiveCall c input out .output ≡ out) × (stateOf (receiveCall c input out .controller) ≡ stateOf c)
+  -- and one that answers leaves the output after the response
+  pub behind : (c : Controller) (input out : List ℕ) (n m : ℕ) → receiveCall c input out .answer ≡ Answers n m → drop m (receiveCall c input out .output) ≡ drop m out
   -- over whole streams, sent to a head in rule at a packet boundary however they were cut, the settings are the accepted writes alone, stored one after the other,
   pub stream : (c : Controller) (b : List ℕ) (s : Sending b) → Boundary c
       → sentTo c s .state .registers .settings ≡ storeAll (acceptedWrites (judgements (stateOf c) (packets b))) (c .registers .settings)
@@ -192,6 +197,8 @@ pub record Demand1 : Type 0 where
       let t = takenBy c input in
       Answering (λ n. r .answer ≡ Refuses n) out 64 3 (OutOfRule c) ((r .controller ≡ c) × (r .output ≡ out))
       (r .answer ≡ cond (t .complete) (Answers (t .taken) (length (responseIn c t))) (Waits (length input)))
+  -- playing is no call of the table: settings out of rule are not played, they stay and nothing is clean
+  pub play : (s : Settings) (b : List ℕ) → SettingsOutOfRule s → (endSettings s b ≡ s) × (endClean s b ≡ false)
   -- the encoder: 1 and 2; else the length of one whole packet
   pub encode : (v : Value) (out : List ℕ)
       → let r = encodeCall v out in
