@@ -8,7 +8,8 @@ use Rattle.command.specs.Rules.{blocked}
 use Rattle.command.specs.Settings.{factory, valuesAfter, store}
 use Rattle.command.specs.Data.{splitAll, joinAll}
 use Rattle.command.specs.Value.{dataOf}
-use Rattle.command.specs.Faults.{wrongCommand, tooLong, wrongOrder, faultsOf, faults, anyFault, listIf, codesOf}
+use Rattle.command.specs.Inner.{faultsOf}
+use Rattle.command.specs.Faults.{wrongCommand, tooLong, wrongOrder, faults, anyFault, listIf, codesOf}
 use Rattle.command.specs.Judgement.{judgeWrite, judgeRead, judgeData, judgeAs, judge}
 use Rattle.command.specs.Response.{response}
 use Rattle.command.specs.Player.{judged, next, judgements, responses, after, play, allAcknowledged, clean}

@@ -61,6 +61,7 @@ abbrev pub noTransfer : TransferState
 noTransfer = record { active = 0; cmd1 = 0; cmd2 = 0; held = 0 }
 
 -- the transfer after the judgement of a packet with this payload: its numbers, and the array of its data. An accepted 01 opens one, 02 adds to it.
+-- Both together are transferAfter of specs/Carry (law carried-transfer of proofs/carry/Laws).
 abbrev pub transferStateAfter : TransferState → List ℕ → Judgement → TransferState
 transferStateAfter t body (Error k) = noTransfer
 transferStateAfter t body (Hold c) = record { active = 1; cmd1 = cmd1For c; cmd2 = cmd2For c; held = heldIn t + length body }

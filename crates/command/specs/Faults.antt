@@ -53,22 +53,18 @@ unfoldable pub wrongOrder : Bool → Bool → ℕ → ℕ → Bool
 wrongOrder opened ours type flags =
     ltb last flags || (not (eqb type hostWrite) && not (eqb flags whole)) || (continues flags && not ours) || ((eqb flags whole || eqb flags beginning) && opened)
 
--- the codes of the first group, with a transfer open or not, for this command or not, and n bytes held; 09: checksum wrong
-unfoldable pub faultsOf : Found → Bool → Bool → ℕ → ℕ → ℕ → ℕ → Bool → Codes
-faultsOf c opened ours n type flags size right =
-    record {
-      command = wrongCommand c type;
-      parameter = false;
-      memory = tooLong opened n flags size;
-      precondition = false;
-      checksum = not right;
-      format = false;
-      continuation = wrongOrder opened ours type flags;
-    }
-
--- those of a packet, with a transfer open or none
+-- the codes of the first group that a packet draws, with a transfer open or none; 09: checksum wrong
 unfoldable pub faults : Found → Transfer → Arrived → Codes
-faults c t p = faultsOf c (isOpen t) (openFor c t) (length (held t)) (p .type) (p .flags) (p .size) (p .right)
+faults c t p =
+    record {
+      command = wrongCommand c (p .type);
+      parameter = false;
+      memory = tooLong (isOpen t) (length (held t)) (p .flags) (p .size);
+      precondition = false;
+      checksum = not (p .right);
+      format = false;
+      continuation = wrongOrder (isOpen t) (openFor c t) (p .type) (p .flags);
+    }
 
 -- one of the first group holds
 unfoldable pub anyFault : Codes → Bool

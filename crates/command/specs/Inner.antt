@@ -7,6 +7,7 @@ use lib.Dec.{eqb}
 use lib.ListN.{length, take, getD}
 use Rattle.packet.specs.Number.{bytesOf}
 use Rattle.command.specs.Table.{table, hasCode, layout, sizeOf}
+use Rattle.command.specs.Faults.{wrongCommand, tooLong, wrongOrder}
 use Rattle.command.specs.Data.{splitAll}
 use Rattle.command.specs.Value.{valueFrom}
 use Rattle.command.specs.Player.{State}
@@ -16,6 +17,7 @@ use Rattle.command.specs.declared.table.Command.{Command}
 use Rattle.command.specs.declared.table.Command.the-variants.{SequenceRun}
 use Rattle.command.specs.declared.table.Found.{Found}
 use Rattle.command.specs.declared.table.Found.the-variants.{Known, Unknown}
+use Rattle.command.specs.declared.faults.Codes.{Codes}
 use Rattle.command.specs.declared.value.Parsed.{Parsed}
 use Rattle.command.specs.declared.value.Parsed.the-variants.{Values, WrongSize}
 use Rattle.command.specs.declared.data.Data.{Data}
@@ -24,7 +26,7 @@ use Rattle.command.specs.declared.transfer.TransferState.{TransferState}
 use Rattle.command.specs.declared.controller.Controller.{Controller}
 use Rattle.command.specs.declared.controller.Registers.{Registers}
 
--- the command in line k of the table, from 0; past the end, the last
+-- the command in line k of the table, from 0; past the end, the last: the contract of Command::at; put_list goes through `table` by it
 abbrev pub commandAt : ℕ → Command
 commandAt k = getD table k SequenceRun
 
@@ -74,7 +76,20 @@ abbrev pub openForIn : Found → TransferState → Bool
 openForIn Unknown t = false
 openForIn (Known c) t = isOpenIn t && hasCode (t .cmd1) (t .cmd2) c
 
--- the state of the head by its settings, its transfer's numbers and the array of the transfer's data: stateOf of a controller that has these
+-- the codes of the first group by these numbers: `faults` of a transfer and a packet (law faults-are of transfer/Laws)
+unfoldable pub faultsOf : Found → Bool → Bool → ℕ → ℕ → ℕ → ℕ → Bool → Codes
+faultsOf c opened ours n type flags size right =
+    record {
+      command = wrongCommand c type;
+      parameter = false;
+      memory = tooLong opened n flags size;
+      precondition = false;
+      checksum = not right;
+      format = false;
+      continuation = wrongOrder opened ours type flags;
+    }
+
+-- the state of the head by its settings, its transfer's numbers and the array of the transfer's data: stateOf of a controller that has these, by computing
 abbrev pub stateIn : Settings → TransferState → List ℕ → State
 stateIn s t buffer = record { settings = s; transfer = transferIn t buffer }
 

@@ -81,7 +81,7 @@ fn advance(
         r.sum,
         r.received,
         hold,
-        packet::EVERY_BYTE,
+        packet::CHECKSUM_FROM,
         input,
     );
     r.header = header;

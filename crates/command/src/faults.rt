@@ -7,9 +7,9 @@ ghost use mathlib.Core.Path.{_≡_};
 ghost use mathlib.Core.Bool.{true};
 ghost use Prim.Native.Nat.{_≤_, _<_};
 ghost use Rattle.packet.specs.Packet.{typeOf, flagsOf, payloadLength};
-ghost use Rattle.command.specs.Inner.{isOpenIn, openForIn};
+ghost use Rattle.command.specs.Inner.{isOpenIn, openForIn, faultsOf};
 ghost use Rattle.command.specs.Controller.{heldIn, transferInRule};
-ghost use Rattle.command.specs.Faults.{faultsOf, wrongCommand, tooLong, wrongOrder, anyFault};
+ghost use Rattle.command.specs.Faults.{wrongCommand, tooLong, wrongOrder, anyFault};
 
 // The error codes, by the names that the command guide gives them: which of them hold.
 pub(crate) struct Codes {

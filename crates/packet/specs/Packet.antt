@@ -57,11 +57,6 @@ intermediate = 0x02
 abbrev pub last : ℕ
 last = 0x03
 
--- the types 01 to 05, then the flags 00 to 03
-abbrev pub typesAndFlags : List ℕ
-typesAndFlags =
-    error ∷ hostWrite ∷ writeResponse ∷ hostRead ∷ readResponse ∷ whole ∷ beginning ∷ intermediate ∷ last ∷ []
-
 -- The checksum: "the sum of every earlier byte of the packet, modulo 256".
 
 unfoldable pub sum : List ℕ → ℕ

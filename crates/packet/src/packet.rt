@@ -1,6 +1,4 @@
 // The packet: its sizes, types and flags.
-ghost use mathlib.Core.Path.{_≡_};
-ghost use Rattle.packet.specs.Packet.{typesAndFlags};
 
 // The bytes before the payload: type, CMD1, CMD2, flags, and the payload's length in two.
 pub const HEADER: usize = 6;
@@ -31,20 +29,3 @@ pub const BEGINNING: u8 = 0x01;
 pub const INTERMEDIATE: u8 = 0x02;
 
 pub const LAST: u8 = 0x03;
-
-// The types 01 to 05, then the flags 00 to 03: its contract states each of the constants above.
-pub fn types_and_flags() -> [u8; 9]
-    ensures { λ r. ⌜ r ≡ typesAndFlags ⌝ }
-{
-    [
-        ERROR,
-        HOST_WRITE,
-        WRITE_RESPONSE,
-        HOST_READ,
-        READ_RESPONSE,
-        WHOLE,
-        BEGINNING,
-        INTERMEDIATE,
-        LAST,
-    ]
-}

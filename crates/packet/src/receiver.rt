@@ -13,7 +13,7 @@ ghost use lib.Seq.{sets};
 ghost use Rattle.packet.specs.Receiver.{runningWith, receiverOf, receivedOf, receiving, packetInRule};
 
 // The first place that document 01's checksum covers: it is the sum of every earlier byte.
-pub const EVERY_BYTE: usize = 0;
+pub const CHECKSUM_FROM: usize = 0;
 
 // What one call took, and the sum and the count of the current packet from now on. `right` tells
 // whether the checksum was, once a packet is complete.

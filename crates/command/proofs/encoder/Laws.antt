@@ -18,7 +18,8 @@ use Rattle.command.specs.Rules.{allowed, blocked}
 use Rattle.command.specs.Data.{joinAll, Fit}
 use Rattle.command.specs.Value.{commandIn, valuesIn, valueFrom, dataIn}
 use Rattle.command.specs.Transfer.{Transfer, Closed, Opened, isOpen, held, openFor}
-use Rattle.command.specs.Faults.{Arrived, arrived, wrongCommand, tooLong, wrongOrder, faultsOf, faults, anyFault, modeFault}
+use Rattle.command.specs.Inner.{faultsOf}
+use Rattle.command.specs.Faults.{Arrived, arrived, wrongCommand, tooLong, wrongOrder, faults, anyFault, modeFault}
 use Rattle.command.specs.Judgement.{judgeWrite, judgeData, judgeAs, judge}
 use Rattle.command.specs.Player.{State, from, judged, next}
 use Rattle.command.specs.Encoder.{writePacket, encoded}

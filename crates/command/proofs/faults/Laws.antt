@@ -12,7 +12,8 @@ use Rattle.packet.specs.Packet.{hostWrite, hostRead, whole, beginning, intermed
 use Rattle.packet.proofs.Cases.{bool-cases, and-left, and-right, and-both, or-left, or-right}
 use Rattle.command.specs.Table.{cmd1For, cmd2For, commandOf, same, readable}
 use Rattle.command.specs.Transfer.{Transfer, Closed, Opened, isOpen, held, openFor}
-use Rattle.command.specs.Faults.{Arrived, continues, wrongCommand, tooLong, wrongOrder, faultsOf, faults, anyFault, listIf, codesOf}
+use Rattle.command.specs.Inner.{faultsOf}
+use Rattle.command.specs.Faults.{Arrived, continues, wrongCommand, tooLong, wrongOrder, faults, anyFault, listIf, codesOf}
 use Rattle.command.specs.Demand1.{Names, Continues, Starts, FirstFault, WrongChecksum, UnknownType, UnknownCommand, ColourRead, LongPayload, LongTransfer, UnknownFlags, NoWriteInParts, NoneOpen, OpenForAnother, StillOpen, Ascending}
 use Rattle.command.specs.declared.table.Command.{Command}
 use Rattle.command.specs.declared.table.Command.the-variants.{StaticColour}

@@ -15,10 +15,10 @@ use Rattle.command.specs.Rules.{allowed, blocked}
 use Rattle.command.specs.Data.{splitAll, Fit}
 use Rattle.command.specs.Value.{commandIn, valuesIn, valueFrom}
 use Rattle.command.specs.Transfer.{Transfer, held}
-use Rattle.command.specs.Faults.{Arrived, wrongCommand, faultsOf, faults, anyFault, sizeFault, valueFault, modeFault}
+use Rattle.command.specs.Faults.{Arrived, wrongCommand, faults, anyFault, sizeFault, valueFault, modeFault}
 use Rattle.command.specs.Judgement.{judgeWrite, judgeRead, completes, judgeData, judgeAs, judge}
 use Rattle.command.specs.Controller.{heldIn, transferIn, transferInRule, packetIn}
-use Rattle.command.specs.Inner.{isOpenIn, openForIn, parsed}
+use Rattle.command.specs.Inner.{isOpenIn, openForIn, parsed, faultsOf}
 use Rattle.command.specs.declared.table.Command.{Command}
 use Rattle.command.specs.declared.table.Found.{Found}
 use Rattle.command.specs.declared.table.Found.the-variants.{Known, Unknown}

@@ -12,9 +12,9 @@ use Rattle.packet.specs.Packet.{hostWrite, whole, beginning, intermediate, last
 use Rattle.packet.proofs.Cases.{bool-cases, and-left, and-right, or-left, or-right}
 use Rattle.command.specs.Table.{cmd1For, cmd2For, hasCode, commandOf, isKnown, same}
 use Rattle.command.specs.Transfer.{Transfer, Closed, Opened, isOpen, held, openFor}
-use Rattle.command.specs.Faults.{Arrived, continues, wrongCommand, tooLong, wrongOrder, faultsOf, faults, anyFault}
+use Rattle.command.specs.Faults.{Arrived, continues, wrongCommand, tooLong, wrongOrder, faults, anyFault}
 use Rattle.command.specs.Controller.{heldIn, transferIn, transferInRule}
-use Rattle.command.specs.Inner.{isOpenIn, openForIn}
+use Rattle.command.specs.Inner.{isOpenIn, openForIn, faultsOf}
 use Rattle.command.specs.declared.table.Command.{Command}
 use Rattle.command.specs.declared.table.Found.{Found}
 use Rattle.command.specs.declared.table.Found.the-variants.{Known, Unknown}
@@ -124,5 +124,5 @@ module _ (t : TransferState) (r : transferInRule t ≡ true) where
       -- the codes of the first group
       pub faults-are : (f : Found) (p : Arrived)
           → faults f (transferIn t buffer) p ≡ faultsOf f (isOpenIn t) (openForIn f t) (heldIn t) (p .type) (p .flags) (p .size) (p .right)
-      unfolding faults
+      unfolding faults faultsOf
       faults-are f p = rw (open-is, open-for-is f, held-length)

@@ -1,7 +1,8 @@
 -- `faults` meets its contract.
 use native.Mathlib.Omega.{arith}
 use borrow.Author.Needs.{needs}
-use Rattle.command.specs.Faults.{faultsOf}
+use Rattle.command.specs.Inner.{faultsOf}
+use Rattle.command.specs.Faults.{}
 use Rattle.command.proofs.transfer.Laws.{held-most}
 use Rattle.command.proofs.faults.faults.Statement.{statement}
 use Rattle.command.proofs.faults.faults.Tie as tie
