@@ -19,7 +19,7 @@ struct dlpc200_states {
 struct dlpc200_receiver {
     uint8_t header[6]; /* CMD1, CMD2, CMD3, CMD4, Len_LSB, Len_MSB */
     uint8_t id[2];     /* Data[0], Data[1] */
-    uint8_t sum;       /* of the bytes after CMD4 */
+    uint8_t sum;       /* of the bytes after CMD4, begun anew with the first of them */
     size_t received;   /* bytes of the current packet */
 };
 
@@ -34,7 +34,7 @@ struct dlpc200_reply {
     uint8_t kind;   /* one of the three above */
     uint8_t number; /* of a refusal: 1 (output under 64 bytes) or 3 (device out of rule) */
     size_t taken;   /* bytes of the input that were taken */
-    size_t length;  /* of the response at the start of the output */
+    size_t size;    /* of the response at the start of the output */
 };
 
 struct dlpc200_stepped {

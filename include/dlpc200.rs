@@ -32,7 +32,7 @@ pub struct Receiver {
     pub header: [u8; 6],
     /// Data[0], Data[1]
     pub id: [u8; 2],
-    /// of the bytes after CMD4
+    /// of the bytes after CMD4, begun anew with the first of them
     pub sum: u8,
     /// bytes of the current packet
     pub received: usize,
@@ -61,7 +61,7 @@ struct Reply {
     kind: u8,
     number: u8,
     taken: usize,
-    length: usize,
+    size: usize,
 }
 
 #[repr(C)]
@@ -84,7 +84,7 @@ mod calls {
 fn answer(reply: Reply) -> Answer {
     match reply.kind {
         0 => Answer::Waiting { taken: reply.taken },
-        1 => Answer::Answered { taken: reply.taken, length: reply.length },
+        1 => Answer::Answered { taken: reply.taken, length: reply.size },
         _ => Answer::Refused(reply.number),
     }
 }

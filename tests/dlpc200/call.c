@@ -13,8 +13,8 @@ int main(void) {
     while (at < sizeof stream) {
         struct dlpc200_reply reply = dlpc200_receive(&device, stream + at, sizeof stream - at, out, sizeof out);
         if (reply.kind != DLPC200_ANSWERED || dlpc200_faults(out[6], out[7]) != 0) return 1;
-        memcpy(got + length, out, reply.length);
-        length += reply.length;
+        memcpy(got + length, out, reply.size);
+        length += reply.size;
         at += reply.taken;
     }
     if (length != sizeof answers || memcmp(got, answers, length) != 0 || device.states.park != 1) return 2;

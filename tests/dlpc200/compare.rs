@@ -93,8 +93,13 @@ fn told(answer: &Answer) -> dlpc200::Answer {
 // One call on both sides, and on the real side by value and lent. Gives the bytes taken.
 fn call(m: &mut Model, input: &[u8], room: usize, fill: u8, tally: &mut Tally) -> usize {
     let before = real(m);
+    let anew = m.sum != 0 && m.count <= 4;
     let mut wanted = vec![fill; room];
     let (answer, judged) = m.receive(input, &mut wanted);
+    tally.add("sum begun anew, carried out", anew && judged.is_some_and(|j| !j.failed()));
+    tally.add("sum begun anew, checksum wrong", anew && judged.is_some_and(|j| j.checksum));
+    tally.add("sum begun anew, waiting", anew && matches!(answer, Answer::Waiting(n) if before.receiver.received + n > 4));
+    tally.add("nothing summed yet, waiting", anew && matches!(answer, Answer::Waiting(n) if n > 0 && before.receiver.received + n <= 4));
     tally.answer(&answer, &judged, u16::from_le_bytes([m.first[4], m.first[5]]) as usize);
 
     let mut lent = before;
@@ -187,6 +192,14 @@ fn worked(tally: &mut Tally) {
         feed(&mut m, request, 0xEE, tally);
         assert_eq!(d, real(&m));
     }
+    // With nothing received it does not matter what stands in the sum.
+    for (checksum, status, park) in [(0x07, 0x00, 1), (0x08, 0x41, 0)] {
+        let mut d = Device::new(States { park: 0, sequence: 1, eeprom: 0, flash: 7, lit: 1 });
+        d.receiver.sum = 1;
+        let mut out = [0xEE; 64];
+        d.receive(&[0x02, 0xAA, 0, 0, 2, 0, 0x05, 0, checksum], &mut out);
+        assert_eq!((out[6], d.states.park), (status, park));
+    }
 }
 
 // Every pair of status bytes.
@@ -199,12 +212,20 @@ fn counts() {
     }
 }
 
-// A stream of packets, cut anywhere.
+// A stream of packets, cut anywhere. Up to four bytes of the first have come in before, and what
+// stands in the sum then does not matter.
 fn stream(r: &mut Random, tally: &mut Tally) {
     let mut m = Model { states: states(r), first: [0; 8], count: 0, sum: 0 };
     let mut stream = vec![];
     for _ in 0..r.below(6) {
         stream.extend(packet(r));
+    }
+    if r.below(2) == 0 {
+        m.sum = r.byte();
+        m.count = r.below(5).min(stream.len());
+        for (at, byte) in stream.drain(..m.count).enumerate() {
+            m.first[at] = byte;
+        }
     }
     if r.below(3) == 0 {
         let p = packet(r);
@@ -247,31 +268,32 @@ fn damaged(r: &mut Random, tally: &mut Tally) {
     call(&mut m, &input, room, r.byte(), tally);
 }
 
-fn rounds(n: u64) -> Tally {
-    let mut tally = Tally::default();
-    for seed in 1..=n {
-        let mut r = Random(seed.wrapping_mul(0x9E3779B97F4A7C15));
-        stream(&mut r, &mut tally);
-        damaged(&mut r, &mut tally);
-    }
-    tally
+fn round(seed: u64, tally: &mut Tally) {
+    let mut r = Random(seed.wrapping_mul(0x9E3779B97F4A7C15));
+    stream(&mut r, tally);
+    damaged(&mut r, tally);
+}
+
+// In how many rounds the comparison finds a planted fault.
+fn found(fault: u32, n: u64) -> usize {
+    model::PLANT.store(fault, std::sync::atomic::Ordering::Relaxed);
+    (1..=n).filter(|seed| std::panic::catch_unwind(|| round(*seed, &mut Tally::default())).is_err()).count()
 }
 
 fn main() {
     let n: u64 = std::env::args().nth(1).map_or(20_000, |n| n.parse().expect("a number of rounds"));
     worked(&mut Tally::default());
     counts();
-    let tally = rounds(n);
+    let mut tally = Tally::default();
+    (1..=n).for_each(|seed| round(seed, &mut tally));
     let never: Vec<_> = tally.0.iter().filter(|(_, n)| **n == 0).map(|(name, _)| *name).collect();
     assert!(never.is_empty(), "never met: {never:?}");
     std::panic::set_hook(Box::new(|_| {}));
-    for fault in 1..=model::PLANTS {
-        model::PLANT.store(fault, std::sync::atomic::Ordering::Relaxed);
-        if std::panic::catch_unwind(|| rounds(n)).is_ok() {
-            println!("dlpc200: planted fault {fault} was not found");
-            std::process::exit(1);
-        }
+    let differ: Vec<_> = (1..=model::PLANTS).map(|fault| found(fault, n)).collect();
+    if let Some(fault) = differ.iter().position(|rounds| *rounds == 0) {
+        println!("dlpc200: planted fault {} was not found", fault + 1);
+        std::process::exit(1);
     }
     let met: Vec<_> = tally.0.iter().map(|(name, n)| format!("{name} {n}")).collect();
-    println!("dlpc200: {n} rounds alike; {}; {} planted faults found", met.join(", "), model::PLANTS);
+    println!("dlpc200: {n} rounds alike; {}; {} planted faults found, in {differ:?} rounds", met.join(", "), model::PLANTS);
 }

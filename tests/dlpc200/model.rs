@@ -5,7 +5,7 @@ use std::sync::atomic::{AtomicU32, Ordering};
 
 // The number of the planted fault, 0 for none.
 pub static PLANT: AtomicU32 = AtomicU32::new(0);
-pub const PLANTS: u32 = 12;
+pub const PLANTS: u32 = 13;
 
 fn plant(n: u32) -> bool {
     PLANT.load(Ordering::Relaxed) == n
@@ -17,7 +17,7 @@ pub struct Model {
     pub states: [u8; 5],
     // the first eight bytes of the packet that is coming in, over those of the one before
     pub first: [u8; 8],
-    // its bytes so far, and the sum of those after CMD4
+    // its bytes so far, and the sum of those after CMD4; with none of those yet the sum may be anything
     pub count: usize,
     pub sum: u8,
 }
@@ -98,9 +98,11 @@ impl Model {
             if self.count < 8 {
                 self.first[self.count] = byte;
             }
-            // plant 4: the checksum counts CMD4
-            if self.count >= 4 - plant(4) as usize {
-                self.sum = ((self.sum as u32 + byte as u32) & 0xFF) as u8;
+            // plant 4: the checksum counts CMD4; plant 13: the sum goes on from what stands there
+            let start = 4 - plant(4) as usize;
+            if self.count >= start {
+                let before = if self.count == start && !plant(13) { 0 } else { self.sum as u32 };
+                self.sum = ((before + byte as u32) & 0xFF) as u8;
             }
             self.count += 1;
         }

@@ -1,4 +1,7 @@
--- The laws of command that crates above cite.
+-- Demands 1 and 2 of the endpoint, and the laws that crates above cite.
+pub mod Refusals
+pub mod Demand1
+pub mod Demand2
 pub use Rattle.command.proofs.table.Laws as TableLaws
 pub use Rattle.command.proofs.rules.Laws as RulesLaws
 pub use Rattle.command.proofs.judgement.Laws as JudgementLaws

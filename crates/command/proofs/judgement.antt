@@ -1,2 +1,3 @@
 -- The laws of judgement.
 pub mod Laws
+pub mod Called

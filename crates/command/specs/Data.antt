@@ -1,5 +1,5 @@
 -- The fields of a command's data, one after the other. "Several bytes to a number: least significant first."
-use Prim.Native.Nat.{ℕ}
+use Prim.Native.Nat.{ℕ, _^_, _<_}
 use mathlib.Core.List.{List, [], _∷_, _++_}
 use lib.ListN.{take, drop}
 use Rattle.packet.specs.Number.{valueOf, bytesOf}
@@ -14,3 +14,10 @@ unfoldable pub joinAll : List ℕ → List ℕ → List ℕ
 joinAll [] vs = []
 joinAll (w ∷ ws) [] = []
 joinAll (w ∷ ws) (v ∷ vs) = bytesOf w v ++ joinAll ws vs
+
+-- the numbers fit their widths
+abbrev pub Fit : List ℕ → List ℕ → Type 0
+Fit [] [] = Unit {0}
+Fit [] (v ∷ vs) = ⊥
+Fit (w ∷ ws) [] = ⊥
+Fit (w ∷ ws) (v ∷ vs) = (v < 256 ^ w) × Fit ws vs

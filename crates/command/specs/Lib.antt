@@ -14,5 +14,8 @@ pub mod Player
 pub mod Controller
 pub mod Endpoint
 pub mod Encoder
+pub mod Sending
+pub mod Demand1
+pub mod Demand2
 pub mod Inner
 pub mod Computing

@@ -76,7 +76,14 @@ fn advance(
         × (now (out .exit) ≡ receiveCall (controllerOf r (now (buffer .entry)) (now (hold .entry))) (now (input .entry)) (now (out .entry)) .output) ⌝ }
 {
     let mut header = r.header;
-    let t = packet::receive(&mut header, r.sum, r.received, hold, packet::EVERY_BYTE, input);
+    let t = packet::receive(
+        &mut header,
+        r.sum,
+        r.received,
+        hold,
+        packet::EVERY_BYTE,
+        input,
+    );
     r.header = header;
     r.sum = t.sum;
     r.received = t.received;

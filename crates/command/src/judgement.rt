@@ -59,13 +59,7 @@ fn judge_read(c: Command, n: usize) -> Judgement
 }
 
 // With no fault of the first group: only for flags 00 or 03 are the data complete.
-fn judge_data(
-    c: Command,
-    mode: u8,
-    header: [u8; HEADER],
-    held: &[u8],
-    payload: &[u8],
-) -> Judgement
+fn judge_data(c: Command, mode: u8, header: [u8; HEADER], held: &[u8], payload: &[u8]) -> Judgement
     requires { ⌜ (length (now held) ≤ 1024) × (length (now payload) < 65536) ⌝ }
     ensures { λ r. ⌜ r ≡ judgeDataOf c mode (typeOf header) (flagsOf header) (now (held .entry) ++ now (payload .entry)) ⌝ }
 {

@@ -1,5 +1,5 @@
 -- The table of examples, computed.
-use lib.Dec.{T}
+use mathlib.Core.Path.{refl}
 use Rattle.packet.specs.Number.{bytesOf}
 use Rattle.packet.specs.Packet.{payload, sum}
 use Rattle.packet.specs.Stream.{size, hasPacket, packetsIn, packets}
@@ -11,8 +11,8 @@ use Rattle.dlpc200.specs.Status.{faultBits}
 use Rattle.dlpc200.specs.Judgement.{commandIn, wrongCmd1, wrongSize, faultsOf, judge}
 use Rattle.dlpc200.specs.Response.{response}
 use Rattle.dlpc200.specs.Playing.{judged, answerTo, next, responses, after}
-use Rattle.dlpc200.specs.Examples.{sameList, writeOf, answers, holds, hold, examples}
+use Rattle.dlpc200.specs.Examples.{answers, given, expected, examples, ExamplesHold}
 
-pub examples-hold : T (hold examples)
-unfolding bytesOf payload sum size hasPacket packetsIn packets onesIn ones checksum rightSum packetOf find commandOf faultBits commandIn wrongCmd1 wrongSize faultsOf judge response judged answerTo next responses after sameList joined writeOf answers holds hold examples
-examples-hold = tt
+pub examples-hold : ExamplesHold
+unfolding bytesOf payload sum size hasPacket packetsIn packets onesIn ones checksum rightSum packetOf find commandOf faultBits commandIn wrongCmd1 wrongSize faultsOf judge response judged answerTo next responses after joined answers given expected examples
+examples-hold = refl

@@ -2,21 +2,22 @@
 use Prim.Native.Nat.{ℕ}
 use mathlib.Core.Path.{_≡_, refl, ap, _∙_}
 use mathlib.Core.Bool.{true}
-use mathlib.Core.List.{List, [], _∷_}
-use lib.ListN.{getD}
+use mathlib.Core.List.{List, [], _∷_, _++_}
+use lib.ListN.{length, getD}
 use Rattle.dlpc200.specs.Packet.{cmd1Of, readResp, packetOf}
 use Rattle.dlpc200.specs.States.{parkAfter, inRange}
 use Rattle.dlpc200.specs.Status.{faultBits, faultsHeld, data0, data1}
 use Rattle.dlpc200.specs.Judgement.{arrived, faultsOf, statesAfter}
 use Rattle.dlpc200.specs.Response.{responseType, response}
 use Rattle.dlpc200.specs.declared.table.Command.{Command}
-use Rattle.dlpc200.specs.declared.table.Command.the-variants.{ParkDmd, UnparkDmd, GetDmdSoftwareParkState}
+use Rattle.dlpc200.specs.declared.table.Command.the-variants.{ParkDmd, UnparkDmd, GetDmdSoftwareParkState, GetSeqRunState, GetEepromFault, GetInitFromParallelFlashFail, GetOverallLedLampLitState}
 use Rattle.dlpc200.specs.declared.status.Faults.{Faults}
 use Rattle.dlpc200.specs.declared.judgement.Judgement.{Judgement}
 use Rattle.dlpc200.specs.declared.judgement.Judgement.the-variants.{Failed, Done}
 use Rattle.dlpc200.specs.declared.states.States.{States}
 use Rattle.dlpc200.proofs.judgement.Laws as judgements
-use Rattle.dlpc200.specs.Playing.{judged, answerTo, next, after}
+use Rattle.dlpc200.specs.Playing.{judged, answerTo, next, responses, after}
+use Rattle.dlpc200.specs.Parking.{NoneParks}
 
 -- A failed packet leaves every state, and packets that all fail do.
 
@@ -56,38 +57,44 @@ read-park s q h =
     let c : cmd1Of q ≡ 0x04 = unfold judged in judgements.done (arrived q) GetDmdSoftwareParkState (unfold judged in h) .cmd1 in
     rw (h, c)
 
--- a packet that is neither a park nor an unpark that was carried out
-abbrev pub Neither : Judgement → Type 0
-Neither (Failed f) = Unit {0}
-Neither (Done c) = (v : ℕ) → parkAfter c v ≡ v
+-- What neither parks nor unparks leaves the park state.
 
-abbrev pub AllNeither : List (List ℕ) → Type 0
-AllNeither [] = Unit {0}
-AllNeither (p ∷ ps) = Neither (judged p) × AllNeither ps
+park-kept : (s : States) (j : Judgement) → (j ≡ Done ParkDmd → ⊥) → (j ≡ Done UnparkDmd → ⊥) → statesAfter s j .park ≡ s .park
+park-kept s (Failed f) h k = refl
+park-kept s (Done ParkDmd) h k = absurd (h refl)
+park-kept s (Done UnparkDmd) h k = absurd (k refl)
+park-kept s (Done GetDmdSoftwareParkState) h k = refl
+park-kept s (Done GetSeqRunState) h k = refl
+park-kept s (Done GetEepromFault) h k = refl
+park-kept s (Done GetInitFromParallelFlashFail) h k = refl
+park-kept s (Done GetOverallLedLampLitState) h k = refl
 
-park-kept : (s : States) (j : Judgement) → Neither j → statesAfter s j .park ≡ s .park
-park-kept s (Failed f) h = refl
-park-kept s (Done c) h = h (s .park)
-
-parks-kept : (s : States) (ps : List (List ℕ)) → AllNeither ps → after s ps .park ≡ s .park
+parks-kept : (s : States) (ps : List (List ℕ)) → NoneParks ps → after s ps .park ≡ s .park
 unfolding after next
 parks-kept s [] h = refl
-parks-kept s (p ∷ ps) h = parks-kept (next s p) ps (h .1) ∙ park-kept s (judged p) (h .0)
+parks-kept s (p ∷ ps) h = parks-kept (next s p) ps (h .2) ∙ park-kept s (judged p) (h .0) (h .1)
 
--- A read after a command that was carried out, whatever comes between that is no park or unpark,
-read-after : (c : Command) (s : States) (p q : List ℕ) (ps : List (List ℕ)) → judged p ≡ Done c → AllNeither ps → judged q ≡ Done GetDmdSoftwareParkState
-    → answerTo (after (next s p) ps) q ≡ packetOf readResp (0x00 ∷ 0x00 ∷ parkAfter c (s .park) ∷ [])
-unfolding next
-read-after c s p q ps h k r =
-    read-park (after (next s p) ps) q r
-    ∙ ap (λ (v : ℕ). packetOf readResp (0x00 ∷ 0x00 ∷ v ∷ [])) (parks-kept (next s p) ps k ∙ ap (λ (j : Judgement). statesAfter s j .park) h)
+after-append : (s : States) (ps qs : List (List ℕ)) → after s (ps ++ qs) ≡ after (after s ps) qs
+unfolding after
+after-append s [] qs = refl
+after-append s (p ∷ ps) qs = after-append (next s p) ps qs
 
--- answers 1 after a park
-pub read-after-park : (s : States) (p q : List ℕ) (ps : List (List ℕ)) → judged p ≡ Done ParkDmd → AllNeither ps → judged q ≡ Done GetDmdSoftwareParkState
-    → answerTo (after (next s p) ps) q ≡ packetOf readResp (0x00 ∷ 0x00 ∷ 0x01 ∷ [])
-read-after-park = read-after ParkDmd
+-- the response to a packet of a stream
+response-at : (s : States) (ps qs : List (List ℕ)) (q : List ℕ) → getD (responses s (ps ++ (q ∷ qs))) (length ps) [] ≡ answerTo (after s ps) q
+unfolding responses after
+response-at s [] qs q = refl
+response-at s (p ∷ ps) qs q = response-at (next s p) ps qs q
 
--- and 0 after an unpark.
-pub read-after-unpark : (s : States) (p q : List ℕ) (ps : List (List ℕ)) → judged p ≡ Done UnparkDmd → AllNeither ps → judged q ≡ Done GetDmdSoftwareParkState
-    → answerTo (after (next s p) ps) q ≡ packetOf readResp (0x00 ∷ 0x00 ∷ 0x00 ∷ [])
-read-after-unpark = read-after UnparkDmd
+-- A read of 0015 after a command that was carried out, none between them being a park or an unpark that was.
+pub read-after : (c : Command) (s : States) (before between later : List (List ℕ)) (p q : List ℕ)
+    → judged p ≡ Done c → NoneParks between → judged q ≡ Done GetDmdSoftwareParkState
+    → getD (responses s ((before ++ (p ∷ between)) ++ (q ∷ later))) (length (before ++ (p ∷ between))) []
+    ≡ packetOf readResp (0x00 ∷ 0x00 ∷ parkAfter c (after s before .park) ∷ [])
+unfolding after next
+read-after c s before between later p q h k r =
+    response-at s (before ++ (p ∷ between)) later q
+    ∙ read-park (after s (before ++ (p ∷ between))) q r
+    ∙ ap (λ (v : ℕ). packetOf readResp (0x00 ∷ 0x00 ∷ v ∷ []))
+    (ap (λ (a : States). a .park) (after-append s before (p ∷ between))
+    ∙ parks-kept (next (after s before) p) between k
+    ∙ ap (λ (j : Judgement). statesAfter (after s before) j .park) h)

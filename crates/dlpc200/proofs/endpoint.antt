@@ -1,3 +1,4 @@
 -- The laws of the receive call.
 pub mod Laws
 pub mod Following
+pub mod Parking

@@ -1,6 +1,7 @@
 -- The device: the states and the receiver, and when it is in rule.
 use mathlib.Core.Bool.{Bool, _&&_}
-use Rattle.dlpc200.specs.Receiver.{fresh, packetInRule}
+use Rattle.packet.specs.Receiver.{packetInRule}
+use Rattle.dlpc200.specs.Receiver.{fresh}
 use Rattle.dlpc200.specs.States.{inRange}
 use Rattle.dlpc200.specs.declared.states.States.{States}
 use Rattle.dlpc200.specs.declared.device.Device.{Device}

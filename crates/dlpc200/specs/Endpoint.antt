@@ -1,36 +1,26 @@
 -- The receive call: when it refuses, and what it answers and leaves.
-use Prim.Native.Nat.{ℕ}
-use mathlib.Core.Bool.{cond}
+use Prim.Native.Nat.{ℕ, _+_, _<_, _≤_}
+use mathlib.Core.Bool.{true, cond}
 use mathlib.Core.List.{List}
+use mathlib.Core.Path.{_≡_}
 use lib.Dec.{ltb}
 use lib.ListN.{length}
+use Rattle.packet.specs.Answer.{Outcome, Refuses, Waits, Answers, takenOf, responseOf}
+use Rattle.packet.specs.Calls.{Call}
 use Rattle.packet.specs.Writer.{written}
-use Rattle.dlpc200.specs.Receiver.{receiving}
-use Rattle.dlpc200.specs.declared.receiver.Received.{Received}
+use Rattle.packet.specs.Receiver.{Received}
+use Rattle.dlpc200.specs.Packet.{afterCmd4}
+use Rattle.dlpc200.specs.Receiver.{receiverOf, receiving}
 use Rattle.dlpc200.specs.Judgement.{Arrived, arrivedBy, judge, statesAfter}
 use Rattle.dlpc200.specs.Response.{response}
 use Rattle.dlpc200.specs.declared.judgement.Judgement.{Judgement}
 use Rattle.dlpc200.specs.declared.states.States.{States}
 use Rattle.dlpc200.specs.declared.device.Device.{Device}
-use Rattle.dlpc200.specs.declared.endpoint.Answer.{Answer}
-use Rattle.dlpc200.specs.declared.endpoint.Answer.the-variants.{Waiting, Answered, ShortOutput, OutOfRule}
 use Rattle.dlpc200.specs.Device.{inRule}
-
--- What a call answers, in document 01's numbers: a refusal's number; "waiting" and the bytes taken; "answered", the bytes taken and the response's length.
-pub data Outcome : Type 0 where
-  Refuses : ℕ → Outcome
-  Waits : ℕ → Outcome
-  Answers : ℕ → ℕ → Outcome
-
-abbrev pub outcomeOf : Answer → Outcome
-outcomeOf ShortOutput = Refuses 1
-outcomeOf OutOfRule = Refuses 3
-outcomeOf (Waiting n) = Waits n
-outcomeOf (Answered n m) = Answers n m
 
 -- the complete packet, how it is judged, and the response to it
 abbrev pub arrivedIn : Received → Arrived
-arrivedIn t = arrivedBy (t .receiver .header) (t .receiver .id) (t .right)
+arrivedIn t = arrivedBy (t .receiver .header) (t .receiver .hold) (t .right)
 
 unfoldable pub judgedIn : Received → Judgement
 judgedIn t = judge (arrivedIn t)
@@ -50,14 +40,14 @@ refused n d out = record { answer = Refuses n; device = d; output = out }
 
 -- "waiting": all bytes taken, output untouched
 abbrev pub waiting : States → Received → List ℕ → After
-waiting s t out = record { answer = Waits (t .taken); device = record { states = s; receiver = t .receiver }; output = out }
+waiting s t out = record { answer = Waits (t .taken); device = record { states = s; receiver = receiverOf (t .receiver) }; output = out }
 
 -- "answered": the response at the output's start, the rest untouched
 abbrev pub answered : States → Received → List ℕ → After
 answered s t out =
     record {
       answer = Answers (t .taken) (length (responseIn s t));
-      device = record { states = statesAfter s (judgedIn t); receiver = t .receiver };
+      device = record { states = statesAfter s (judgedIn t); receiver = receiverOf (t .receiver) };
       output = written (responseIn s t) out;
     }
 
@@ -69,3 +59,38 @@ ended s t out = cond (t .complete) (answered s t out) (waiting s t out)
 unfoldable pub receiveCall : Device → List ℕ → List ℕ → After
 receiveCall d input out =
     cond (ltb (length out) 64) (refused 1 d out) (cond (inRule d) (ended (d .states) (receiving (d .receiver) input) out) (refused 3 d out))
+
+-- A stream handed over call after call (the packet layer's `served`): what a call shows are the bytes taken and, where a packet is complete, the response at the output's start.
+
+abbrev pub shown : After → Call Device (List ℕ)
+shown r = record { taken = takenOf (r .answer); gives = responseOf (r .answer) (r .output); state = r .device }
+
+-- the receive call with this output lent
+abbrev pub serves : List ℕ → Device → List ℕ → Call Device (List ℕ)
+serves out d b = shown (receiveCall d b out)
+
+-- a device in rule with nothing half received, its arrays of their sizes; the sum may be any
+pub record Boundary (d : Device) : Type 0 where
+  pub rule : inRule d ≡ true
+  pub received : d .receiver .received ≡ 0
+  pub header : length (d .receiver .header) ≡ 6
+  pub id : length (d .receiver .id) ≡ 2
+
+-- With up to four bytes received nothing is summed yet: the sum begins anew with the first byte after CMD4. To a call that takes that byte it does not matter
+-- what stood in the sum.
+
+abbrev pub withSum : Device → ℕ → Device
+withSum d n =
+    record {
+      states = d .states;
+      receiver = record { header = d .receiver .header; id = d .receiver .id; sum = n; received = d .receiver .received };
+    }
+
+abbrev pub SumBegins : Type 0
+SumBegins =
+    (d : Device) (n : ℕ) (b out : List ℕ)
+    → 64 ≤ length out
+    → inRule d ≡ true
+    → d .receiver .received ≤ afterCmd4
+    → afterCmd4 < d .receiver .received + length b
+    → receiveCall (withSum d n) b out ≡ receiveCall d b out

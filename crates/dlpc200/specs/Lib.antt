@@ -9,5 +9,7 @@ pub mod Playing
 pub mod Receiver
 pub mod Device
 pub mod Endpoint
+pub mod Parking
 pub mod Exports
 pub mod Examples
+pub mod Inner

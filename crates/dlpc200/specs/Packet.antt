@@ -45,9 +45,13 @@ extended = 0xAA
 abbrev pub only : ℕ
 only = 0x00
 
--- "Checksum (of everything after CMD4)", the bytes before it being b
+-- "Checksum (of everything after CMD4)": the first place that it covers,
+abbrev pub afterCmd4 : ℕ
+afterCmd4 = 4
+
+-- and the checksum, the bytes before it being b
 unfoldable pub checksum : List ℕ → ℕ
-checksum b = sum (drop 4 b) % 256
+checksum b = sum (drop afterCmd4 b) % 256
 
 -- the checksum of the packet p is right
 unfoldable pub rightSum : List ℕ → Bool

@@ -28,6 +28,7 @@ impl Device {
     {
         let states = self.states;
         let receiver = self.receiver;
-        states.in_range() & receiver.unfinished()
+        let header = receiver.header;
+        states.in_range() & packet::packet_in_rule(header, receiver.received)
     }
 }

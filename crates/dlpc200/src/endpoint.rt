@@ -5,30 +5,16 @@ use crate::judgement::states_after;
 use crate::receiver::Received;
 use crate::response::respond;
 use crate::states::States;
+use packet::Answer;
 ghost use mathlib.Core.Path.{_≡_};
 ghost use Prim.Native.Nat.{_≤_};
 ghost use lib.ListN.{length};
-ghost use Rattle.dlpc200.specs.Endpoint.{answered, outcomeOf, receiveCall};
+ghost use Rattle.packet.specs.Answer.{outcomeOf};
+ghost use Rattle.dlpc200.specs.Endpoint.{answered, receiveCall};
+ghost use Rattle.dlpc200.specs.Inner.{receivedBy};
 
 // An output shorter than this is refused.
 const OUTPUT: usize = 64;
-
-// What a call answers.
-pub enum Answer {
-    // The input ended before a packet did; all of it was taken.
-    Waiting(usize),
-    // One packet is complete.
-    Answered {
-        // How many bytes of the input were taken.
-        taken: usize,
-        // How long the response is that stands at the output's start.
-        length: usize,
-    },
-    // Refusal 1: the output is shorter than 64 bytes.
-    ShortOutput,
-    // Refusal 3: a state is out of range, or the half-received packet has all its bytes.
-    OutOfRule,
-}
 
 // An answer, and the device afterwards.
 pub struct Step {
@@ -39,9 +25,9 @@ pub struct Step {
 // A packet that is complete, as the receiver took it: it is judged and answered.
 fn complete(s: States, t: Received, out: &mut [u8]) -> Step
     requires { ⌜ 64 ≤ length (now out) ⌝ }
-    ensures { λ r. ⌜ (outcomeOf (r .answer) ≡ answered s t (now (out .entry)) .answer)
-        × (r .device ≡ answered s t (now (out .entry)) .device)
-        × (now (out .exit) ≡ answered s t (now (out .entry)) .output) ⌝ }
+    ensures { λ r. ⌜ (outcomeOf (r .answer) ≡ answered s (receivedBy t) (now (out .entry)) .answer)
+        × (r .device ≡ answered s (receivedBy t) (now (out .entry)) .device)
+        × (now (out .exit) ≡ answered s (receivedBy t) (now (out .entry)) .output) ⌝ }
 {
     let receiver = t.receiver;
     let header = receiver.header;

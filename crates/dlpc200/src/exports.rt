@@ -1,21 +1,22 @@
 // The calls for C and Rust. An enum does not cross, so an answer is told as numbers.
 use crate::device::Device;
-use crate::endpoint::Answer;
 use crate::states::States;
+use packet::Answer;
 ghost use mathlib.Core.Path.{_≡_};
 ghost use Rattle.dlpc200.specs.Device.{deviceWith};
-ghost use Rattle.dlpc200.specs.Endpoint.{outcomeOf, receiveCall};
+ghost use Rattle.packet.specs.Answer.{outcomeOf};
+ghost use Rattle.dlpc200.specs.Endpoint.{receiveCall};
 ghost use Rattle.dlpc200.specs.Status.{faultBits};
 ghost use Rattle.dlpc200.specs.Exports.{replyOf};
 
-// An answer as numbers: kind 0 is "waiting" (taken), 1 "answered" (taken, length) and 2 a refusal
-// (its number).
+// An answer as numbers: kind 0 is "waiting" (taken), 1 "answered" (taken, and the size
+// of the response) and 2 a refusal (its number).
 #[repr(C)]
 pub struct Reply {
     pub kind: u8,
     pub number: u8,
     pub taken: usize,
-    pub length: usize,
+    pub size: usize,
 }
 
 // An answer, and the device afterwards.
@@ -34,25 +35,25 @@ fn as_reply(a: Answer) -> Reply
             kind: 0,
             number: 0,
             taken: n,
-            length: 0,
+            size: 0,
         },
         Answer::Answered { taken, length } => Reply {
             kind: 1,
             number: 0,
             taken,
-            length,
+            size: length,
         },
         Answer::ShortOutput => Reply {
             kind: 2,
             number: 1,
             taken: 0,
-            length: 0,
+            size: 0,
         },
         Answer::OutOfRule => Reply {
             kind: 2,
             number: 3,
             taken: 0,
-            length: 0,
+            size: 0,
         },
     }
 }
@@ -74,10 +75,10 @@ pub extern "C" fn dlpc200_step(device: Device, input: &[u8], out: &mut [u8]) -> 
 {
     let s = crate::endpoint::receive(device, input, out);
     let after = s.device;
-    let a = s.answer;
+    let answer = s.answer;
     Stepped {
         device: after,
-        reply: as_reply(a),
+        reply: as_reply(answer),
     }
 }
 

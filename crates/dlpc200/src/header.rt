@@ -1,7 +1,7 @@
 // The layout of a packet and the values of CMD1, CMD2 and CMD4 (section 6).
 
-// CMD1 to CMD4 and the length field.
-pub(crate) const HEADER_SIZE: usize = 6;
+// The first place that the checksum covers: it is of everything after CMD4.
+pub(crate) const AFTER_CMD4: usize = 4;
 
 // The data of a packet: its ID, Data[0] and Data[1], and nothing else for the commands here.
 pub(crate) const ID_SIZE: usize = 2;

@@ -1,7 +1,6 @@
 // How a complete packet is judged, and what a judgement changes.
 use crate::header::DATA_LIMIT;
 use crate::header::EXTENDED;
-use crate::header::HEADER_SIZE;
 use crate::header::ID_SIZE;
 use crate::header::ONLY;
 use crate::header::READ;
@@ -10,6 +9,7 @@ use crate::states::States;
 use crate::status::Faults;
 use crate::table::Command;
 use crate::table::Found;
+use packet::HEADER;
 ghost use mathlib.Core.Path.{_≡_};
 ghost use Rattle.packet.specs.Packet.{payloadLength};
 ghost use Rattle.dlpc200.specs.Judgement.{arrivedBy, arrivedOf, commandIn, faultsOf, judge as judgeOf, statesAfter, wrongCmd1, wrongSize};
@@ -23,7 +23,7 @@ pub(crate) enum Judgement {
 }
 
 // The command of a packet with this header, these being its first two data bytes.
-fn command_in(header: [u8; HEADER_SIZE], id: [u8; 2]) -> Found
+fn command_in(header: [u8; HEADER], id: [u8; ID_SIZE]) -> Found
     ensures { λ r. ⌜ r ≡ commandIn (payloadLength header) id ⌝ }
 {
     if packet::word(header[4], header[5]) < ID_SIZE {
@@ -55,7 +55,7 @@ fn wrong_size(found: Found, size: usize) -> bool
 }
 
 // Every fault that holds of a packet of this command.
-fn faults_in(found: Found, header: [u8; HEADER_SIZE], right: bool) -> Faults
+fn faults_in(found: Found, header: [u8; HEADER], right: bool) -> Faults
     ensures { λ r. ⌜ r ≡ faultsOf (arrivedOf found header right) ⌝ }
 {
     Faults {
@@ -68,7 +68,7 @@ fn faults_in(found: Found, header: [u8; HEADER_SIZE], right: bool) -> Faults
 }
 
 // A complete packet: its header, its first two data bytes, and whether its checksum was right.
-pub(crate) fn judge(header: [u8; HEADER_SIZE], id: [u8; 2], right: bool) -> Judgement
+pub(crate) fn judge(header: [u8; HEADER], id: [u8; ID_SIZE], right: bool) -> Judgement
     ensures { λ r. ⌜ r ≡ judgeOf (arrivedBy header id right) ⌝ }
 {
     let found = command_in(header, id);

@@ -23,7 +23,6 @@ mod status;
 mod table;
 
 pub use device::Device;
-pub use endpoint::Answer;
 pub use endpoint::Step;
 pub use endpoint::receive;
 pub use exports::Reply;

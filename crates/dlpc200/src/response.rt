@@ -39,7 +39,7 @@ fn put_status(out: &mut [u8], kind: u8, data0: u8, data1: u8) -> usize
     out[6] = data0;
     out[7] = data1;
     out[8] = sum;
-    9
+    packet::FRAME + 2
 }
 
 // A response that tells a state.
@@ -53,7 +53,7 @@ fn put_state(out: &mut [u8], kind: u8, state: u8) -> usize
     out[7] = 0x00;
     out[8] = state;
     out[9] = sum;
-    10
+    packet::FRAME + 3
 }
 
 // A read response for CMD1 04, and a write response otherwise.

@@ -5,20 +5,23 @@ use mathlib.Core.Path.{_≡_, refl, ap, ap₂, sym, _∙_, subst}
 use mathlib.Core.Bool.{Bool, true, false, not, _&&_}
 use mathlib.Core.List.{List, [], _∷_, _++_, append-nil}
 use native.Mathlib.Omega.{arith}
-use lib.ListN.{length}
+use borrow.Author.Tests.{le-ltb}
+use lib.ListN.{length, take, drop}
+use lib.Seq.{take-at, drop-at}
 use Rattle.packet.specs.Number.{bytesOf, Bytes}
+use Rattle.packet.specs.Writer.{written}
 use Rattle.packet.proofs.Cases.{and-left, and-right}
 use Rattle.command.specs.Settings.{factory}
 use Rattle.command.specs.declared.settings.Settings.{Settings}
 use Rattle.command.specs.Transfer.{Transfer, Closed, Opened, isOpen}
 use Rattle.command.specs.Player.{State, judgementsOn, play, allAcknowledged, halfSent, isNil, clean}
-use Rattle.command.specs.Encoder.{standardList}
-use Rattle.command.proofs.RulesLaws.{Kept, Fits, kept-factory, fits-factory}
-use Rattle.command.proofs.EncoderLists.{standard-plays, standard-clean}
-use Rattle.command.proofs.PlayerLaws.{Holding, holding-play}
+use Rattle.command.specs.Encoder.{standardList, Writes, writes, listCall}
+use Rattle.command.proofs.RulesLaws.{Kept, Fits, in-rule-of, kept-factory, fits-factory}
+use Rattle.command.proofs.EncoderLists.{standard-plays, standard-clean, standard-size}
+use Rattle.command.proofs.PlayerLaws.{Holding, holding-play, kept-play}
 use Rattle.report.specs.Record.{Out}
 use Rattle.report.specs.Report.{Trial, Report, readReport, scoreAt, endFrom, firstLowest, sameSettings, checkReport, Verdict, Accepted, Refused, verdictOf, verdict}
-use Rattle.report.specs.Claim.{recordOf, headOf, trialOf, trialRecords, reportOf, FirstLowest, Ships, Claim, Standard, Demand3}
+use Rattle.report.specs.Claim.{recordOf, headOf, trialOf, trialRecords, reportOf, FirstLowest, Ships, Claim, Listed, Standard, Lists, Demand3}
 use Rattle.report.specs.Refusals.{Fault, F17, F18, F19, Refusal, Later}
 use Rattle.report.proofs.record.Laws.{run, pass}
 use Rattle.report.proofs.same.Laws.{settings-true, settings-refl}
@@ -88,9 +91,7 @@ says (good {a = p} h) =
       trials = p .trials;
       shipping = p .shipping;
       short = h .kept .short;
-      laid = h .kept .keeps .laid;
-      scores = h .kept .keeps .scores;
-      named = h .kept .keeps .named;
+      layout = h .kept .keeps;
       first = h .first;
       scored = refl;
       ends = refl;
@@ -110,10 +111,11 @@ pub claimed : (r : List ℕ) (k n : ℕ) (s : Settings) → Claim r k n s → ve
 unfolding verdict verdictOf checkReport
 claimed r k n s c =
     let ts = c .trials in
+    let y = c .layout in
     let place = 8 + length (trialRecords ts) in
     ap (verdictOf factory)
     (run (readReport r) (checkReport factory)
-    (ap readReport (c .laid) ∙ reading-whole ts k (c .shipping) (c .scores) (c .named) (subst (λ (x : List ℕ). length x ≤ 60000) (c .laid) (c .short)))
+    (ap readReport (y .laid) ∙ reading-whole ts k (c .shipping) (y .scores) (y .named) (subst (λ (x : List ℕ). length x ≤ 60000) (y .laid) (c .short)))
     (pass _ 17 place _ (lowest-back ts k (c .first))
     (pass _ 18 (place + 6) _ (clean-back factory (c .shipping) (c .ships))
     (pass _ 19 (place + 6) _ (ap (λ (x : Settings). sameSettings x (endFrom factory ts k)) (c .equal ∙ c .ends) ∙ settings-refl (endFrom factory ts k)) refl))))
@@ -143,16 +145,48 @@ trial-bytes (t ∷ ts) left h =
     let body = bytes-parts (bytesOf 2 2) (bytesOf 4 (t .score) ++ t .bytes) (bytes-parts size (bytesOf 2 2 ++ (bytesOf 4 (t .score) ++ t .bytes)) (i .0) .1) .1 in
     (bytes-parts (bytesOf 4 (t .score)) (t .bytes) body .1, trial-bytes ts [] (rw append-nil (i .1)))
 
--- whatever the trials sent, the settings keep the rules and their values fit
-holding-end : (s : Settings) (ts : List Trial) (k : ℕ) → Kept s → Fits s → TrialBytes ts → Kept (endFrom s ts k) × Fits (endFrom s ts k)
+-- whatever the trials sent, the settings keep the rules, and their values fit
+kept-end : (s : Settings) (ts : List Trial) (k : ℕ) → Kept s → Kept (endFrom s ts k)
 unfolding endFrom
-holding-end s [] k r f b = (r, f)
-holding-end s (t ∷ ts) zero r f b =
+kept-end s [] k h = h
+kept-end s (t ∷ ts) zero h = kept-play s (t .bytes) h
+kept-end s (t ∷ ts) (suc k) h = kept-end (play s (t .bytes) .settings) ts k (kept-play s (t .bytes) h)
+
+fits-end : (s : Settings) (ts : List Trial) (k : ℕ) → Kept s → Fits s → TrialBytes ts → Fits (endFrom s ts k)
+unfolding endFrom
+fits-end s [] k r f b = f
+fits-end s (t ∷ ts) zero r f b = holding-play s (t .bytes) r f (b .0) .fits
+fits-end s (t ∷ ts) (suc k) r f b =
     let h : Holding (play s (t .bytes)) = holding-play s (t .bytes) r f (b .0) in
-    (h .rules, h .fits)
-holding-end s (t ∷ ts) (suc k) r f b =
-    let h : Holding (play s (t .bytes)) = holding-play s (t .bytes) r f (b .0) in
-    holding-end (play s (t .bytes) .settings) ts k (h .rules) (h .fits) (b .1)
+    fits-end (play s (t .bytes) .settings) ts k (h .rules) (h .fits) (b .1)
+
+-- What the standard list call writes for settings that keep the rules.
+module _ (s : Settings) (kept : Kept s) where
+  listed-call : (out : List ℕ) → 128 ≤ length out → listCall s out ≡ writes (standardList s) out
+  unfolding listCall
+  listed-call out room = rw (le-ltb (length out) 128 room, in-rule-of s kept)
+
+  listed-start : (out : List ℕ) → 128 ≤ length out → take 111 (listCall s out .output) ≡ standardList s
+  unfolding written
+  listed-start out room = rw (listed-call out room) (take-at (standardList s) _ 111 (standard-size s))
+
+  pub lists-all : (out : List ℕ) → 128 ≤ length out → Lists s out
+  unfolding written
+  lists-all out room =
+      record {
+        answer = rw (listed-call out room) (ap Writes (standard-size s));
+        start = listed-start out room;
+        rest = rw (listed-call out room) (drop-at (standardList s) _ 111 (standard-size s) ∙ rw (standard-size s));
+      }
+
+  -- the bytes that the call wrote are the standard list
+  listed : (b : List ℕ) → Listed s b → b ≡ standardList s
+  listed b h =
+      let n : h .size ≡ 111 = writes-same (sym (h .answer) ∙ lists-all (h .out) (h .room) .answer) in
+      h .start ∙ ap (λ (x : ℕ). take x (listCall s (h .out) .output)) n ∙ listed-start (h .out) (h .room)
+    where
+      writes-same : {m n : ℕ} → Writes m ≡ Writes n → m ≡ n
+      writes-same e = cc
 
 -- Any report of at least one trial and at most 60,000 bytes that keeps the layout, names the first of its lowest-scored trials
 -- and ships the standard list for that trial's end settings is accepted, whatever its trials sent.
@@ -160,21 +194,22 @@ pub standard-verdict : (r : List ℕ) (ts : List Trial) (k : ℕ) → Bytes r �
 unfolding reportOf
 standard-verdict r ts k b s =
     let e = endFrom factory ts k in
-    let sent = trial-bytes ts _ (bytes-parts (headOf (length ts)) _ (subst Bytes (s .laid) b) .1) in
-    let a = holding-end factory ts k kept-factory fits-factory sent in
+    let y = s .layout in
+    let sent = trial-bytes ts _ (bytes-parts (headOf (length ts)) _ (subst Bytes (y .laid) b) .1) in
+    let kept = kept-end factory ts k kept-factory in
+    let fits = fits-end factory ts k kept-factory fits-factory sent in
+    let list = listed e kept (s .shipping) (s .list) in
     claimed r k (scoreAt ts k) e
     (record {
       trials = ts;
-      shipping = standardList e;
+      shipping = s .shipping;
       short = s .short;
-      laid = s .laid;
-      scores = s .scores;
-      named = s .named;
+      layout = y;
       first = s .first;
       scored = refl;
       ends = refl;
-      ships = clean-true factory (standardList e) (standard-clean e (a .0) (a .1));
-      equal = ap (λ (p : State). p .settings) (standard-plays e (a .0) (a .1));
+      ships = subst (Ships factory) (sym list) (clean-true factory (standardList e) (standard-clean e kept fits));
+      equal = ap (λ (x : List ℕ). play factory x .settings) list ∙ ap (λ (p : State). p .settings) (standard-plays e kept fits);
     })
 
 -- An answer that is the verdict meets the whole of demand 3.
@@ -184,4 +219,5 @@ demand3-of r v b e =
       ruled = e;
       exactly = λ k n s. ((λ h. accepted r k n s b (sym e ∙ h)), (λ h. e ∙ claimed r k n s h));
       standard = λ ts k s. e ∙ standard-verdict r ts k b s;
+      lists = λ ts k. lists-all (endFrom factory ts k) (kept-end factory ts k kept-factory);
     }

@@ -2,3 +2,4 @@
 pub mod Demand3
 pub mod Refusals
 pub mod Examples
+pub use Rattle.report.proofs.line.Laws as LineLaws

@@ -15,8 +15,8 @@ use Rattle.command.specs.Settings.{factory}
 use Rattle.command.specs.Player.{play, isNil, clean}
 use Rattle.report.specs.Record.{Bad, Good, _>>=_, _>>_, need, sized, reading}
 use Rattle.report.specs.Report.{Trial, Report, readTrials, readHead, readEnd, readReport, endFrom, firstLowest, sameSettings, checkReport, Refused, verdictOf, verdict}
-use Rattle.report.specs.Claim.{recordOf, headOf, trialRecords, reportOf, Scores, FirstLowest, Ships}
-use Rattle.report.specs.Refusals.{Begins, Due, Head, More, Winner, Shipping, Layout, WrongLength, NotFour, UnderFour, NotTwo, Fault, F11, F12, F13, F14, F15, F16, F17, F18, F19, F20, Refusal, Long, Later}
+use Rattle.report.specs.Claim.{recordOf, headOf, trialRecords, reportOf, Scores, Layout, FirstLowest, Ships}
+use Rattle.report.specs.Refusals.{Begins, Due, Head, More, Winner, Shipping, WrongLength, NotFour, UnderFour, NotTwo, Fault, F11, F12, F13, F14, F15, F16, F17, F18, F19, F20, Refusal, Long, Later}
 use Rattle.report.proofs.record.Laws.{run, stop, pass, fail, short-body, other-kind, wrong-size}
 use Rattle.report.proofs.same.Laws.{settings-true}
 use Rattle.report.proofs.trials.Laws.{lowest-true, lowest-back}

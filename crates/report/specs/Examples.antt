@@ -1,8 +1,8 @@
 -- Examples about the rules: document 01's starred packets and reports, each row of the table at its limits, and each fault alone. Packets go to a fresh factory head.
 use Prim.Native.Nat.{ℕ}
+use Prim.Native.String.{String}
 use mathlib.Core.Bool.{Bool, true, false, not, _&&_}
 use mathlib.Core.List.{List, [], _∷_, _++_}
-use lib.Dec.{eqb}
 use lib.ListN.{replicate}
 use Rattle.command.specs.Rules.{allowed}
 use Rattle.command.specs.Settings.{valuesOf, factory}
@@ -10,7 +10,8 @@ use Rattle.command.specs.declared.table.Command.{Command}
 use Rattle.command.specs.declared.table.Command.the-variants.{DisplayMode, TestPattern, LedCurrent, StaticColour, DisplaySetting, VideoInput, VideoMode, PatternSequence, SequenceRun}
 use Rattle.command.specs.Response.{codesIn}
 use Rattle.command.specs.Player.{State, from, judged, next, answersTo, play, clean}
-use Rattle.report.specs.Report.{sameList, Verdict, Accepted, Refused, verdict}
+use Rattle.report.specs.Report.{sameList, verdict}
+use Rattle.report.specs.Line.{textOf, lineOf}
 
 pub data Example : Type 0 where
   -- bytes, and all that the head answers
@@ -24,25 +25,14 @@ pub data Example : Type 0 where
   -- a command's values that are allowed, and some that are not
   Allows : Command → List ℕ → Example
   Forbids : Command → List ℕ → Example
-  -- a report that is accepted, with its trial and score
-  Accepts : List ℕ → ℕ → ℕ → Example
-  -- a report that is refused, with the number and the place
-  Refuses : List ℕ → ℕ → ℕ → Example
+  -- a report, and the line that the checking program prints
+  Prints : List ℕ → String → Example
 
 -- the codes that the last of some packets draws
 unfoldable pub lastDraws : State → List (List ℕ) → List ℕ
 lastDraws a [] = []
 lastDraws a (p ∷ []) = codesIn (judged a p)
 lastDraws a (p ∷ q ∷ ps) = lastDraws (next a p) (q ∷ ps)
-
--- what a verdict says
-unfoldable pub isYes : Verdict → ℕ → ℕ → Bool
-isYes (Accepted k n s) k′ n′ = eqb k k′ && eqb n n′
-isYes (Refused n p) k′ n′ = false
-
-unfoldable pub isNo : Verdict → ℕ → ℕ → Bool
-isNo (Accepted k n s) n′ p′ = false
-isNo (Refused n p) n′ p′ = eqb n n′ && eqb p p′
 
 unfoldable pub holds : Example → Bool
 holds (Answers b r) = sameList (answersTo factory b) r
@@ -52,8 +42,7 @@ holds (Cleans b true) = clean factory b
 holds (Cleans b false) = not (clean factory b)
 holds (Allows c v) = allowed c v
 holds (Forbids c v) = not (allowed c v)
-holds (Accepts r k n) = isYes (verdict r) k n
-holds (Refuses r n p) = isNo (verdict r) n p
+holds (Prints r t) = sameList (lineOf (verdict r)) (textOf t)
 
 unfoldable pub hold : List Example → Bool
 hold [] = true
@@ -85,13 +74,12 @@ twoTrials =
 
 abbrev pub reports : List Example
 reports =
-    Accepts
+    Prints
     (twoTrials ++ (0x10 ∷ 0x00 ∷ 0x04 ∷ 0x00 ∷ []) ++ (0x02 ∷ 0x01 ∷ 0x03 ∷ 0x00 ∷ 0x01 ∷ 0x00 ∷ 0x03 ∷ 0x0A ∷ []) ++ (0x02 ∷ 0x01 ∷ 0x01 ∷ 0x00 ∷ 0x01 ∷ 0x00 ∷ 0x01 ∷ 0x06 ∷ []))
-    1
-    7
-    ∷ Refuses (twoTrials ++ (0x08 ∷ 0x00 ∷ 0x04 ∷ 0x00 ∷ []) ++ (0x02 ∷ 0x01 ∷ 0x01 ∷ 0x00 ∷ 0x01 ∷ 0x00 ∷ 0x01 ∷ 0x06 ∷ [])) 19 46
+    "accepted trial 1 score 7\n"
+    ∷ Prints (twoTrials ++ (0x08 ∷ 0x00 ∷ 0x04 ∷ 0x00 ∷ []) ++ (0x02 ∷ 0x01 ∷ 0x01 ∷ 0x00 ∷ 0x01 ∷ 0x00 ∷ 0x01 ∷ 0x06 ∷ [])) "refused 19 at 46\n"
     -- no bytes at all
-    ∷ Refuses [] 11 0
+    ∷ Prints [] "refused 11 at 0\n"
     ∷ []
 
 -- The rows of the table, at their limits and just past them.

@@ -1,5 +1,6 @@
 -- For the code alone: what its functions have read, by the readings of specs/Report.antt. The laws that make the verdict of them, in proofs/verdict/Laws:
--- HeadAt `head-no`; BestAt, with First, `trials-no`; WinnerAt, with namedAt, `winner-no`, `verdict-read`. RecordAt is the reading of specs/Record.antt.
+-- HeadAt `head-no`; BestAt, with First, `trials-no`; WinnerAt, with namedAt, `winner-no`, `verdict-read`. RecordAt is the reading of specs/Record.antt,
+-- DigitsOf the decimal of specs/Line.antt.
 use Prim.Native.Nat.{ℕ, _+_, _<_, _≤_}
 use mathlib.Core.Path.{_≡_}
 use mathlib.Core.Bool.{true}
@@ -11,6 +12,7 @@ use Rattle.command.specs.declared.settings.Settings.{Settings}
 use Rattle.report.specs.Record.{Out, Bad, Good, _>>=_, _>>_, need, sized, reading}
 use Rattle.report.specs.Report.{Trial, Report, scoreAt, endFrom, readHead, readTrials, readEnd}
 use Rattle.report.specs.Claim.{FirstLowest}
+use Rattle.report.specs.Line.{decimal}
 use Rattle.report.specs.declared.record.Outcome.{Outcome}
 use Rattle.report.specs.declared.record.Outcome.the-variants.{Value, Refused}
 
@@ -71,3 +73,9 @@ pub record WinnerIs (r : List ℕ) (at n best k : ℕ) : Type 0 where
 abbrev pub WinnerAt : List ℕ → ℕ → ℕ → ℕ → Outcome → Type 0
 WinnerAt r at n best (Value k) = WinnerIs r at n best k
 WinnerAt r at n best (Refused x p) = (ts : List Trial) → namedAt r at n best ts ≡ Bad x p
+
+-- the decimal digits of n stand in an array of 20 bytes, from this place to its end
+pub record DigitsOf (n : ℕ) (bytes : List ℕ) (start : ℕ) : Type 0 where
+  pub reads : drop start bytes ≡ decimal n
+  pub within : start < 20
+  pub whole : length bytes ≡ 20

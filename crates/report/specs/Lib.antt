@@ -4,5 +4,6 @@ pub mod Report
 pub mod Claim
 pub mod Refusals
 pub mod Verdict
+pub mod Line
 pub mod Examples
 pub mod Inner

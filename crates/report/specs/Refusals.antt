@@ -7,7 +7,7 @@ use Rattle.packet.specs.Number.{valueOf, bytesOf}
 use Rattle.command.specs.Settings.{factory}
 use Rattle.command.specs.Player.{play}
 use Rattle.report.specs.Report.{Trial, endFrom}
-use Rattle.report.specs.Claim.{recordOf, headOf, trialRecords, reportOf, Scores, FirstLowest, Ships}
+use Rattle.report.specs.Claim.{recordOf, headOf, trialRecords, reportOf, Scores, Layout, FirstLowest, Ships}
 
 -- the report begins with kind 1, which counts n trials, and with the records of these trials
 pub record Begins (r : List ℕ) (n : ℕ) (ts : List Trial) (left : List ℕ) : Type 0 where
@@ -26,12 +26,6 @@ pub data Due (r : List ℕ) : ℕ → ℕ → List ℕ → Type 0 where
   -- one of kind 4
   Shipping : (ts : List Trial) (k : ℕ) (left : List ℕ) → Begins r (length ts) ts (recordOf 3 (bytesOf 2 k) ++ left) → k < length ts
       → Due r 4 (14 + length (trialRecords ts)) left
-
--- the report keeps the layout: its trials, its winner, its shipping packets
-pub record Layout (r : List ℕ) (ts : List Trial) (k : ℕ) (ship : List ℕ) : Type 0 where
-  pub laid : r ≡ reportOf ts k ship
-  pub scores : Scores ts
-  pub named : k < length ts
 
 -- a body has not the length of its kind: not 4 (kind 1), under 4 (kind 2), not 2 (kind 3)
 pub data WrongLength : ℕ → ℕ → Type 0 where

@@ -8,7 +8,7 @@ use crate::record::word_at;
 ghost use Rattle.report.specs.Inner.{HeadAt};
 
 // The longest report.
-const LONGEST: usize = 60000;
+pub const LONGEST: usize = 60000;
 
 const VERSION: usize = 1;
 

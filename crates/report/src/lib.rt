@@ -6,13 +6,18 @@
 //   end      kinds 3 and 4: the winner, and nothing after the shipping packets
 //   same     equality of settings
 //   verdict  the yes or the no: `check`
+//   line     that answer as the checking program's line: `write_line`
 mod end;
 mod head;
+mod line;
 mod record;
 mod same;
 mod trials;
 mod verdict;
 
+pub use head::LONGEST;
+pub use line::LINE;
+pub use line::write_line;
 pub use record::Outcome;
 pub use verdict::Checked;
 pub use verdict::check;

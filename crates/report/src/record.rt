@@ -72,9 +72,8 @@ pub(crate) fn record_at(r: &[u8], at: usize, kind: usize) -> Outcome
     ensures { λ o. ⌜ RecordAt (now (r .entry)) kind at o ⌝ }
 {
     let left = r.len() - at;
-    let cut = refusal(11, at);
     if left < HEADER {
-        return cut;
+        return refusal(11, at);
     }
     let n = word_at(r, at);
     let k = word_at(r, at + 2);

@@ -6,7 +6,6 @@ use crate::record::long_at;
 use crate::record::record_at;
 use command::Settings;
 use command::play;
-ghost use mathlib.Core.Path.{_≡_};
 ghost use Prim.Native.Nat.{_<_, _≤_};
 ghost use lib.ListN.{length};
 ghost use Rattle.report.specs.Inner.{BestAt};
@@ -18,24 +17,12 @@ const FIRST: usize = 8;
 const PACKETS: usize = 8;
 
 // The first of the lowest-scored trials, with its score and the settings that it ended with, and the
-// place after all of them.
+// place after all of them. Where a trial that is due is not there, none is the best.
 pub(crate) struct Best {
     pub next: Outcome,
     pub trial: usize,
     pub score: usize,
     pub settings: Settings,
-}
-
-// A trial that is due and not there: none is the best.
-fn missing(why: Outcome, settings: Settings) -> Best
-    ensures { λ b. ⌜ b .next ≡ why ⌝ }
-{
-    Best {
-        next: why,
-        trial: 0,
-        score: 0,
-        settings: settings,
-    }
 }
 
 // So many trials; trial 0 starts from factory values, each later trial from where the last ended.
@@ -53,12 +40,16 @@ pub(crate) fn best_of(r: &[u8], count: usize) -> Best
     while i < count {
         let due = record_at(r, at, TRIAL);
         let Outcome::Value(n) = due else {
-            return missing(due, start);
+            return Best {
+                next: due,
+                trial: 0,
+                score: 0,
+                settings: start,
+            };
         };
         let next = at + HEADER + n;
         let score = long_at(r, at + HEADER);
-        let played = play(last, &r[at + PACKETS..next]);
-        let ended = played.settings;
+        let ended = play(last, &r[at + PACKETS..next]).settings;
         if (i == 0) | (score < lowest) {
             trial = i;
             lowest = score;
@@ -70,7 +61,7 @@ pub(crate) fn best_of(r: &[u8], count: usize) -> Best
     }
     Best {
         next: Outcome::Value(at),
-        trial: trial,
+        trial,
         score: lowest,
         settings: best,
     }

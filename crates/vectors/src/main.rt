@@ -7,7 +7,7 @@
 mod said;
 mod stream;
 
-use report::Outcome;
+use report::LINE;
 use said::further;
 use said::number;
 use said::text;
@@ -18,24 +18,11 @@ const ROOM: usize = 70000;
 const ROWS: usize = 65536;
 
 // The line of the checking program.
-fn line(trial: Outcome, score: usize) {
-    match trial {
-        Outcome::Value(winner) => {
-            number(b": accepted trial ", winner);
-            number(b" score ", score);
-        }
-        Outcome::Refused { number: why, place } => {
-            number(b": refused ", why as usize);
-            number(b" at ", place);
-        }
-    }
-    text(b"\n");
-}
-
 fn report(b: &[u8]) {
-    let c = report::check(b);
-    let trial = c.trial;
-    line(trial, c.score);
+    text(b": ");
+    let mut line = [0u8; LINE];
+    let n = report::write_line(&mut line, report::check(b));
+    text(&line[..n]);
 }
 
 fn case(kind: u8, b: &[u8]) {

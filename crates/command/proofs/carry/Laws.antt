@@ -5,7 +5,7 @@ use mathlib.Core.Bool.{true}
 use mathlib.Core.List.{List, _++_}
 use native.Mathlib.Omega.{arith}
 use lib.ListN.{length, take, drop, length-append}
-use lib.Seq.{sets, sets-eq, take-at, length-take-le}
+use lib.Seq.{sets, sets-eq, length-sets, take-at, length-take-le}
 use borrow.Author.Tests.{le-leb}
 use Rattle.command.specs.Table.{commandOf}
 use Rattle.command.specs.Transfer.{Transfer, Opened, held}
@@ -42,26 +42,34 @@ bounded mode t p =
       write = λ _ _ _ _. tt;
     })
 
-pub transfer-kept : (t : TransferState) (body : List ℕ) (j : Judgement) → transferInRule t ≡ true → Bounded (heldIn t + length body) j
+-- n is the payload's length, of which the body is as much as was held
+pub transfer-kept : (t : TransferState) (body : List ℕ) (n : ℕ) (j : Judgement) → length body ≤ n → transferInRule t ≡ true → Bounded (heldIn t + n) j
     → transferInRule (transferStateAfter t body j) ≡ true
 unfolding transferInRule
-transfer-kept t body (Error k) r b = refl
-transfer-kept t body (Hold c) r b = rw (le-leb (heldIn t + length body) 1024 b, found c)
-transfer-kept t body (Write v) r b = refl
-transfer-kept t body (Read c) r b = r
+transfer-kept t body n (Error k) l r b = refl
+transfer-kept t body n (Hold c) l r b = rw (le-leb (heldIn t + length body) 1024 (omega arith), found c)
+transfer-kept t body n (Write v) l r b = refl
+transfer-kept t body n (Read c) l r b = r
 
--- what was stored after the held bytes stands there
-added : (d xs : List ℕ) (i : ℕ) → i + length xs ≤ length d → take (i + length xs) (sets d i xs) ≡ take i d ++ xs
-added d xs i h =
-    let e : sets d i xs ≡ take i d ++ xs ++ drop (i + length xs) d = sets-eq xs d i (omega arith) in
+pub buffer-kept : (t : TransferState) (buffer body : List ℕ) (j : Judgement) → length (bufferAfter t buffer body j) ≡ length buffer
+buffer-kept t buffer body (Error k) = refl
+buffer-kept t buffer body (Hold c) = length-sets buffer (heldIn t) body
+buffer-kept t buffer body (Write v) = refl
+buffer-kept t buffer body (Read c) = refl
+
+-- the list up to the end of what was stored at a place of it
+pub stored-part : (d xs : List ℕ) (i n : ℕ) → length xs ≡ n → i + n ≤ length d → take (i + n) (sets d i xs) ≡ take i d ++ xs
+stored-part d xs i n l h =
     let t : length (take i d) ≡ i = length-take-le i d (omega arith) in
-    rw e (take-at (take i d ++ xs) (drop (i + length xs) d) (i + length xs) (length-append (take i d) xs ∙ omega arith))
+    rw (sets-eq xs d i (omega arith)) (take-at (take i d ++ xs) (drop (i + length xs) d) (i + n) (length-append (take i d) xs ∙ omega arith))
 
-pub carried-transfer : (t : TransferState) (buffer : List ℕ) (p : Arrived) (j : Judgement) → transferInRule t ≡ true → length buffer ≡ 1024
-    → Bounded (heldIn t + length (p .body)) j
-    → transferIn (transferStateAfter t (p .body) j) (bufferAfter t buffer (p .body) j) ≡ transferAfter (transferIn t buffer) p j
-carried-transfer t buffer p (Error k) r n b = refl
-carried-transfer t buffer p (Hold c) r n b =
-    rw (found c) (ap (Opened c) (added buffer (p .body) (heldIn t) (omega arith) ∙ ap (λ (x : List ℕ). x ++ p .body) (sym (held-is t r buffer))))
-carried-transfer t buffer p (Write v) r n b = refl
-carried-transfer t buffer p (Read c) r n b = refl
+pub carried-transfer : (t : TransferState) (buffer body : List ℕ) (p : Arrived) (j : Judgement) → transferInRule t ≡ true → length buffer ≡ 1024
+    → length (p .body) ≡ p .size → (p .size ≤ 1024 → body ≡ p .body) → Bounded (heldIn t + p .size) j
+    → transferIn (transferStateAfter t body j) (bufferAfter t buffer body j) ≡ transferAfter (transferIn t buffer) p j
+carried-transfer t buffer body p (Error k) r n l e b = refl
+carried-transfer t buffer body p (Hold c) r n l e b =
+    rw (found c, e (omega arith))
+    (ap (Opened c)
+    (stored-part buffer (p .body) (heldIn t) (length (p .body)) refl (omega arith) ∙ ap (λ (x : List ℕ). x ++ p .body) (sym (held-is t r buffer))))
+carried-transfer t buffer body p (Write v) r n l e b = refl
+carried-transfer t buffer body p (Read c) r n l e b = refl

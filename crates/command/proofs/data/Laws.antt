@@ -9,8 +9,7 @@ use lib.Seq.{take-at, drop-at, length-take-le, drop-drop, getD-drop}
 use Rattle.packet.specs.Number.{valueOf, bytesOf, Bytes}
 use Rattle.packet.specs.Packet.{sum}
 use Rattle.packet.proofs.NumberLaws.{bytes-take, bytes-drop, value-bytes, length-bytes, bytes-value, value-bound}
-use Rattle.command.proofs.table.Laws.{Fit}
-use Rattle.command.specs.Data.{splitAll, joinAll}
+use Rattle.command.specs.Data.{splitAll, joinAll, Fit}
 use Rattle.command.specs.Inner.{Holds, total, numberAt, splitFrom, joinOnto}
 use Rattle.command.specs.Table.{layout, sizeOf}
 use Rattle.command.specs.declared.table.Command.{Command}

@@ -15,7 +15,7 @@ use Rattle.packet.proofs.WriterLaws.{length-written, packet-written, payload-wr
 use Rattle.command.specs.Table.{cmd1For, cmd2For, commandOf, isKnown, canRead, layout, sizeOf}
 use Rattle.command.specs.Settings.{store}
 use Rattle.command.specs.Rules.{allowed, blocked}
-use Rattle.command.specs.Data.{joinAll}
+use Rattle.command.specs.Data.{joinAll, Fit}
 use Rattle.command.specs.Value.{commandIn, valuesIn, valueFrom, dataIn}
 use Rattle.command.specs.Transfer.{Transfer, Closed, Opened, isOpen, held, openFor}
 use Rattle.command.specs.Faults.{Arrived, arrived, wrongCommand, tooLong, wrongOrder, faultsOf, faults, anyFault, modeFault}
@@ -28,7 +28,7 @@ use Rattle.command.specs.declared.table.Found.the-variants.{Known}
 use Rattle.command.specs.declared.settings.Settings.{Settings}
 use Rattle.command.specs.declared.value.Value.{Value}
 use Rattle.command.specs.declared.judgement.Judgement.the-variants.{Error, Write}
-use Rattle.command.proofs.table.Laws.{Fit, fit-length, found, known-code, size-small}
+use Rattle.command.proofs.table.Laws.{fit-length, found, known-code, size-small}
 use Rattle.command.proofs.data.Laws.{split-join, length-join, join-split}
 use Rattle.command.proofs.value.Laws.{command-from, values-from, value-from}
 use Rattle.command.proofs.transfer.Laws.{faultless}

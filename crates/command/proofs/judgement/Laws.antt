@@ -12,7 +12,7 @@ use Rattle.packet.specs.Packet.{typeOf, cmd1Of, cmd2Of, flagsOf, payloadLength,
 use Rattle.packet.proofs.Cases.{bool-cases, cond-cases}
 use Rattle.command.specs.Table.{commandOf, layout, sizeOf}
 use Rattle.command.specs.Rules.{allowed, blocked}
-use Rattle.command.specs.Data.{splitAll}
+use Rattle.command.specs.Data.{splitAll, Fit}
 use Rattle.command.specs.Value.{commandIn, valuesIn, valueFrom}
 use Rattle.command.specs.Transfer.{Transfer, held}
 use Rattle.command.specs.Faults.{Arrived, wrongCommand, faultsOf, faults, anyFault, sizeFault, valueFault, modeFault}
@@ -28,7 +28,6 @@ use Rattle.command.specs.declared.transfer.TransferState.{TransferState}
 use Rattle.command.specs.declared.faults.Codes.{Codes}
 use Rattle.command.specs.declared.judgement.Judgement.{Judgement}
 use Rattle.command.specs.declared.judgement.Judgement.the-variants.{Error, Hold, Write, Read}
-use Rattle.command.proofs.table.Laws.{Fit}
 use Rattle.command.proofs.rules.Laws.{Writable}
 use Rattle.command.proofs.data.Laws.{split-length, fit-split}
 use Rattle.command.proofs.value.Laws.{command-from, values-from}

@@ -7,6 +7,7 @@ use Rattle.packet.specs.Packet.{payloadLength, payload}
 use Rattle.packet.specs.Stream.{packets}
 use Rattle.packet.proofs.NumberLaws.{bytes-append, bytes-take, bytes-drop}
 use Rattle.packet.proofs.StreamLaws.{AllBytes, packets-bytes}
+use Rattle.command.specs.Data.{Fit}
 use Rattle.command.specs.Table.{layout}
 use Rattle.command.specs.Settings.{store}
 use Rattle.command.specs.Value.{commandIn, valuesIn}
@@ -19,7 +20,6 @@ use Rattle.command.specs.declared.table.Command.{Command}
 use Rattle.command.specs.declared.settings.Settings.{Settings}
 use Rattle.command.specs.declared.judgement.Judgement.{Judgement}
 use Rattle.command.specs.declared.judgement.Judgement.the-variants.{Error, Hold, Write, Read}
-use Rattle.command.proofs.table.Laws.{Fit}
 use Rattle.command.proofs.rules.Laws.{Kept, Fits, Writable, kept-store, fits-store}
 use Rattle.command.proofs.judgement.Laws.{OfWrite, Sound, sound, fitting}
 

@@ -9,7 +9,7 @@ use lib.Seq.{drop-drop, length-take-le}
 use Rattle.packet.specs.Packet.{payloadLength, payload, rightSum}
 use Rattle.packet.specs.Stream.{size, hasPacket, nextIn, packets, rest}
 use Rattle.packet.specs.declared.stream.Next.the-variants.{Packet, Nothing}
-use Rattle.packet.proofs.StreamLaws.{IsPacket, first-packet, seven, size-within, packets-nil, rest-nil, packets-cons, rest-cons, packets-none, rest-none, next-some, next-none, right-front}
+use Rattle.packet.proofs.StreamLaws.{IsPacket, payload-length, first-packet, seven, size-within, packets-nil, rest-nil, packets-cons, rest-cons, packets-none, rest-none, next-some, next-none, right-front}
 use Rattle.command.specs.Faults.{Arrived, arrived}
 use Rattle.command.specs.Response.{acknowledged}
 use Rattle.command.specs.Transfer.{Transfer, isOpen}
@@ -53,13 +53,9 @@ module _
   unfolding judged
   judged-packet = ej ∙ ap (judge (s .mode) (transferIn t buffer)) seen
 
-  whole-body : length (payload p) ≡ payloadLength p
-  unfolding payload size
-  whole-body = length-take-le (payloadLength p) (drop 6 p) (simp length-drop (omega (arith, w)))
-
-  fits : Bounded (heldIn t + length (payload p)) (judged (stateIn s t buffer) p)
+  fits : Bounded (heldIn t + payloadLength p) (judged (stateIn s t buffer) p)
   unfolding judged
-  fits = rw whole-body (rw (held-length t r buffer n) at (bounded (s .mode) (transferIn t buffer) (arrived p)))
+  fits = rw (held-length t r buffer n) at (bounded (s .mode) (transferIn t buffer) (arrived p))
 
   same-body : body ≡ payload p
   same-body = ap (λ (q : Arrived). q .body) seen
@@ -69,10 +65,10 @@ module _
   next-packet =
       rw (same-body, judged-packet)
       (ap (λ (x : Transfer). record { settings = settingsAfter s (judged (stateIn s t buffer) p); transfer = x })
-      (carried-transfer t buffer (arrived p) (judged (stateIn s t buffer) p) r n fits))
+      (carried-transfer t buffer (payload p) (arrived p) (judged (stateIn s t buffer) p) r n (payload-length p w) (λ _. refl) fits))
 
   pub rule-kept : transferInRule (transferStateAfter t body j) ≡ true
-  rule-kept = rw (same-body, judged-packet) (transfer-kept t (payload p) (judged (stateIn s t buffer) p) r fits)
+  rule-kept = rw (same-body, judged-packet) (transfer-kept t (payload p) (payloadLength p) (judged (stateIn s t buffer) p) (omega (arith, payload-length p w)) r fits)
 
 -- The bytes up to `at` were played from s, and left the state a; `good` tells whether each packet so far was acknowledged.
 pub record Going (s : Settings) (b : List ℕ) (a : State) (good : Bool) (at : ℕ) : Type 0 where

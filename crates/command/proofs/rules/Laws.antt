@@ -8,6 +8,7 @@ use lib.Dec.{eqb}
 use borrow.Author.Tests.{not-true}
 use lib.ListN.{length, getD}
 use Rattle.packet.proofs.Cases.{bool-cases, cond-cases, and-left, and-right, and-both}
+use Rattle.command.specs.Data.{Fit}
 use Rattle.command.specs.Table.{table, cmd1For, cmd2For, find, commandOf, same, layout}
 use Rattle.command.specs.Rules.{allowed, blocked, allAllowed, settingsInRule}
 use Rattle.command.specs.Settings.{valuesOf, factory, valuesAfter, store}
@@ -15,7 +16,7 @@ use Rattle.command.specs.declared.settings.Settings.{Settings}
 use Rattle.command.specs.declared.table.Command.{Command}
 use Rattle.command.specs.declared.table.Command.the-variants.{DisplayMode, TestPattern, LedCurrent, StaticColour, DisplaySetting, VideoInput, VideoMode, PatternSequence, SequenceRun}
 use Rattle.command.specs.declared.table.Found.the-variants.{Known}
-use Rattle.command.proofs.table.Laws.{each, found, find-later, same-eq, Fit, fit-length, values-settings}
+use Rattle.command.proofs.table.Laws.{each, found, find-later, same-eq, fit-length, values-settings}
 
 -- the settings keep the rules
 pub record Kept (s : Settings) : Type 0 where

@@ -9,6 +9,7 @@ use borrow.Author.Tests.{eqb-true}
 use lib.ListN.{length, getD}
 use Rattle.packet.specs.Packet.{sum}
 use Rattle.packet.proofs.Cases.{bool-cases, and-left, and-right}
+use Rattle.command.specs.Data.{Fit}
 use Rattle.command.specs.Table.{table, cmd1For, cmd2For, hasCode, find, commandOf, same, layout, sizeOf}
 use Rattle.command.specs.Settings.{valuesOf, settingsOf}
 use Rattle.command.specs.declared.table.Command.{Command}
@@ -78,13 +79,6 @@ full zero [] h = refl
 full zero (x ∷ l) h = absurd (omega arith)
 full (suc n) [] h = absurd (omega arith)
 full (suc n) (x ∷ l) h = ap {B = List ℕ} (λ t. x ∷ t) (full n l (omega arith))
-
--- each number fits its width
-abbrev pub Fit : List ℕ → List ℕ → Type 0
-Fit [] [] = Unit {0}
-Fit [] (v ∷ vs) = ⊥
-Fit (w ∷ ws) [] = ⊥
-Fit (w ∷ ws) (v ∷ vs) = (v < 256 ^ w) × Fit ws vs
 
 pub fit-length : (ws vs : List ℕ) → Fit ws vs → length vs ≡ length ws
 fit-length [] [] h = refl

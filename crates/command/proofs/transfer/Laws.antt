@@ -126,4 +126,3 @@ module _ (t : TransferState) (r : transferInRule t ≡ true) where
           → faults f (transferIn t buffer) p ≡ faultsOf f (isOpenIn t) (openForIn f t) (heldIn t) (p .type) (p .flags) (p .size) (p .right)
       unfolding faults
       faults-are f p = rw (open-is, open-for-is f, held-length)
-

@@ -9,7 +9,7 @@ use lib.Dec.{ltb}
 use borrow.Author.Tests.{ltb-false}
 use lib.ListN.{length, take, drop, length-append, length-drop}
 use lib.Seq.{sets, getD-take, take-at, drop-at, length-take-le}
-use Rattle.packet.specs.Packet.{payloadLength, payload}
+use Rattle.packet.specs.Packet.{payloadLength, payload, checksum as packetChecksum}
 use Rattle.packet.specs.Stream.{size, hasPacket, packets, rest}
 use Rattle.packet.specs.Calls.{Served, andThen, callsOn, servedOne, served, joined}
 use Rattle.packet.proofs.Cases.{bool-cases}
@@ -17,18 +17,18 @@ use Rattle.packet.proofs.BytesLaws.{sets-whole}
 use Rattle.packet.proofs.StreamLaws.{IsPacket, packets-cons, rest-cons, packets-none, rest-none, packet-induction}
 use Rattle.packet.proofs.Calls.{same-calls}
 use Rattle.packet.specs.Writer.{written}
-use Rattle.dlpc200.specs.Packet.{rightSum}
-use Rattle.dlpc200.specs.Receiver.{with}
-use Rattle.dlpc200.specs.declared.receiver.Receiver.{Receiver}
-use Rattle.dlpc200.specs.declared.receiver.Received.{Received}
-use Rattle.dlpc200.proofs.receiver.Laws.{Made, Between, afterPacket, one, first-of, too-few}
+use Rattle.packet.specs.Receiver.{Receiver as PacketReceiver, Received, with, waiting as packetWaiting}
+use Rattle.packet.proofs.ReceiverLaws.{Between, afterPacket, rightFrom, one, first-of, too-few}
+use Rattle.dlpc200.specs.Packet.{afterCmd4, checksum, rightSum}
+use Rattle.dlpc200.specs.Receiver.{framedBy, receiverOf}
 use Rattle.dlpc200.specs.Judgement.{commandIn, arrivedBy, arrived, judge, statesAfter}
 use Rattle.dlpc200.specs.Response.{response}
 use Rattle.dlpc200.specs.declared.states.States.{States}
 use Rattle.dlpc200.specs.Playing.{judged, answerTo, next, responses, after}
-use Rattle.dlpc200.specs.Endpoint.{judgedIn, responseIn, After, waiting, answered, ended, receiveCall}
+use Rattle.packet.specs.Answer.{Waits}
+use Rattle.dlpc200.specs.Endpoint.{arrivedIn, judgedIn, responseIn, After, answered, ended, receiveCall, shown, serves, Boundary}
 use Rattle.dlpc200.specs.declared.device.Device.{Device}
-use Rattle.dlpc200.proofs.endpoint.Laws.{serves, shown, Ready, not-refused, stays-in-rule, endpoint-streams, cut-anywhere}
+use Rattle.dlpc200.proofs.endpoint.Laws.{Made, Ready, deviceAfter, not-refused, stays-in-rule, endpoint-streams, cut-anywhere}
 
 -- The packet that the receiver has received is the packet of its bytes.
 module _ (p : List ℕ) (i : IsPacket p) (id : List ℕ) (m : length id ≡ 2) where
@@ -56,17 +56,25 @@ module _ (p : List ℕ) (i : IsPacket p) (id : List ℕ) (m : length id ≡ 2) w
   same-arrived =
       rw (getD-take 6 p 0 0 (omega arith), getD-take 6 p 1 0 (omega arith), getD-take 6 p 3 0 (omega arith), getD-take 6 p 4 0 (omega arith), getD-take 6 p 5 0 (omega arith), same-command)
 
+-- its checksum is right where that over everything after CMD4 is
+same-right : (p : List ℕ) → rightFrom afterCmd4 p ≡ rightSum p
+unfolding rightSum checksum packetChecksum
+same-right p = refl
+
 -- so it is judged as that, and draws what that draws
-module _ (s : States) (r : Receiver) (m : Made r) (p : List ℕ) (i : IsPacket p) where
-  same-judged : judgedIn (one r p) ≡ judged p
+module _ (s : States) (q : PacketReceiver) (m : Made q) (p : List ℕ) (i : IsPacket p) where
+  same-packet : arrivedIn (one afterCmd4 q p) ≡ arrived p
+  same-packet = ap (arrivedBy (take 6 p) (sets (q .hold) 0 (payload p))) (same-right p) ∙ same-arrived p i (q .hold) (m .id)
+
+  same-judged : judgedIn (one afterCmd4 q p) ≡ judged p
   unfolding judgedIn judged
-  same-judged = ap judge (same-arrived p i (r .id) (m .id))
+  same-judged = ap judge same-packet
 
-  same-response : responseIn s (one r p) ≡ answerTo s p
+  same-response : responseIn s (one afterCmd4 q p) ≡ answerTo s p
   unfolding responseIn answerTo
-  same-response = ap₂ (response s) (same-arrived p i (r .id) (m .id)) same-judged
+  same-response = ap₂ (response s) same-packet same-judged
 
-  same-states : statesAfter s (judgedIn (one r p)) ≡ next s p
+  same-states : statesAfter s (judgedIn (one afterCmd4 q p)) ≡ next s p
   unfolding next
   same-states = ap (statesAfter s) same-judged
 
@@ -74,44 +82,52 @@ module _ (s : States) (r : Receiver) (m : Made r) (p : List ℕ) (i : IsPacket p
 pub record Follows (d : Device) (b : List ℕ) (r : Served Device (List ℕ)) : Type 0 where
   pub given : r .given ≡ responses (d .states) (packets b)
   pub ends : r .state .states ≡ after (d .states) (packets b)
-  pub base : Receiver
+  pub base : PacketReceiver
   pub boundary : Between base
-  pub left : r .state .receiver ≡ with base (rest b)
+  pub left : framedBy (r .state .receiver) ≡ with afterCmd4 base (rest b)
 
-between-packet : (r : Receiver) (p : List ℕ) → IsPacket p → Between (afterPacket r p)
-between-packet r p i = record { header = length-take-le 6 p (omega (arith, i .least)); sum = refl; received = refl }
+-- a device between two packets is ready, and its receiver is between them
+ready : (d : Device) → Boundary d → Ready d
+ready d z = record { rule = z .rule; made = record { header = z .header; id = z .id } }
+
+between : (d : Device) → Boundary d → Between (framedBy (d .receiver))
+between d z = record { header = z .header; received = z .received }
 
 module _ (out : List ℕ) (l : 64 ≤ length out) where
   -- the claim of `follows` for one stream
   abbrev Claim : List ℕ → Type 0
-  Claim b = (d : Device) → Ready d → Between (d .receiver) → Follows d b (servedOne (serves out) d b)
+  Claim b = (d : Device) → Boundary d → Follows d b (servedOne (serves out) d b)
 
   follows-none : (b : List ℕ) → hasPacket b ≡ false → Claim b
-  unfolding servedOne callsOn responses after
-  follows-none b h d k q =
-      let e : receiveCall d b out ≡ waiting (d .states) (record { taken = length b; complete = false; right = false; receiver = with (d .receiver) b }) out =
-      not-refused d b out k l ∙ ap (λ (t : Received). ended (d .states) t out) (too-few (d .receiver) q b h) in
-      let f : servedOne (serves out) d b ≡ record { given = []; state = record { states = d .states; receiver = with (d .receiver) b } } =
+  unfolding servedOne callsOn responses after packetWaiting
+  follows-none b h d z =
+      let k = ready d z in
+      let q = between d z in
+      let e : receiveCall d b out ≡ record { answer = Waits (length b); device = deviceAfter d b; output = out } =
+      not-refused d b out (k .rule) l ∙ ap (λ (t : Received). ended (d .states) t out) (too-few afterCmd4 (framedBy (d .receiver)) q b h) in
+      let f : servedOne (serves out) d b ≡ record { given = []; state = deviceAfter d b } =
       ap (λ (x : After). andThen (shown x .gives) (shown x .state) (callsOn (serves out) (length b) (serves out d b .state) (drop (serves out d b .taken) b))) e in
       subst (Follows d b) (sym f)
       (record {
         given = sym (ap (responses (d .states)) (packets-none b h));
         ends = sym (ap (after (d .states)) (packets-none b h));
-        base = d .receiver;
+        base = framedBy (d .receiver);
         boundary = q;
-        left = ap (with (d .receiver)) (sym (rest-none b h));
+        left = ap (with afterCmd4 (framedBy (d .receiver))) (sym (rest-none b h));
       })
 
   -- one packet more
   follows-more : (p b : List ℕ) → IsPacket p → Claim b → Claim (p ++ b)
   unfolding servedOne callsOn responses after written
-  follows-more p b i ih d k q =
-      let t : Received = one (d .receiver) p in
-      let x : Device = record { states = statesAfter (d .states) (judgedIn (one (d .receiver) p)); receiver = afterPacket (d .receiver) p } in
-      let m : List ℕ = responseIn (d .states) (one (d .receiver) p) in
-      let e : receiveCall d (p ++ b) out ≡ answered (d .states) (one (d .receiver) p) out =
-      not-refused d (p ++ b) out k l ∙ ap (λ (t : Received). ended (d .states) t out) (first-of (d .receiver) q p b i) in
-      let kx : Ready (record { states = statesAfter (d .states) (judgedIn (one (d .receiver) p)); receiver = afterPacket (d .receiver) p }) =
+  follows-more p b i ih d z =
+      let k = ready d z in
+      let q = between d z in
+      let t : Received = one afterCmd4 (framedBy (d .receiver)) p in
+      let x : Device = record { states = statesAfter (d .states) (judgedIn (one afterCmd4 (framedBy (d .receiver)) p)); receiver = receiverOf (afterPacket (framedBy (d .receiver)) p) } in
+      let m : List ℕ = responseIn (d .states) (one afterCmd4 (framedBy (d .receiver)) p) in
+      let e : receiveCall d (p ++ b) out ≡ answered (d .states) (one afterCmd4 (framedBy (d .receiver)) p) out =
+      not-refused d (p ++ b) out (k .rule) l ∙ ap (λ (t : Received). ended (d .states) t out) (first-of afterCmd4 (framedBy (d .receiver)) q p b (omega arith) i) in
+      let kx : Ready (record { states = statesAfter (d .states) (judgedIn (one afterCmd4 (framedBy (d .receiver)) p)); receiver = receiverOf (afterPacket (framedBy (d .receiver)) p) }) =
       subst (λ (r : After). Ready (r .device)) e (stays-in-rule d (p ++ b) out k l) in
       let n : length (p ++ b) ≡ length p + length b = length-append p b in
       let rest-calls : callsOn (serves out) (length (p ++ b)) x (drop (length p) (p ++ b)) ≡ servedOne (serves out) x b =
@@ -121,24 +137,24 @@ module _ (out : List ℕ) (l : 64 ≤ length out) where
       ap (λ (r : After). andThen (shown r .gives) (shown r .state) (callsOn (serves out) (length (p ++ b)) (shown r .state) (drop (shown r .taken) (p ++ b)))) e
       ∙ ap (λ (y : List ℕ). andThen (some y) x (callsOn (serves out) (length (p ++ b)) x (drop (length p) (p ++ b)))) (take-at m (drop (length m) out) (length m) refl)
       ∙ ap (λ (y : Served Device (List ℕ)). andThen (some m) x y) rest-calls in
-      let g = ih x kx (between-packet (d .receiver) p i) in
-      let s : x .states ≡ next (d .states) p = same-states (d .states) (d .receiver) (k .made) p i in
+      let g = ih x (record { rule = kx .rule; received = refl; header = kx .made .header; id = kx .made .id }) in
+      let s : x .states ≡ next (d .states) p = same-states (d .states) (framedBy (d .receiver)) (k .made) p i in
       subst (Follows d (p ++ b)) (sym f)
       (record {
         given =
-            ap₂ {C = List (List ℕ)} (λ y ys. y ∷ ys) (same-response (d .states) (d .receiver) (k .made) p i) (g .given ∙ ap (λ (a : States). responses a (packets b)) s)
+            ap₂ {C = List (List ℕ)} (λ y ys. y ∷ ys) (same-response (d .states) (framedBy (d .receiver)) (k .made) p i) (g .given ∙ ap (λ (a : States). responses a (packets b)) s)
             ∙ sym (ap (responses (d .states)) (packets-cons p b i));
         ends = g .ends ∙ ap (λ (a : States). after a (packets b)) s ∙ sym (ap (after (d .states)) (packets-cons p b i));
         base = g .base;
         boundary = g .boundary;
-        left = g .left ∙ ap (with (g .base)) (sym (rest-cons p b i));
+        left = g .left ∙ ap (with afterCmd4 (g .base)) (sym (rest-cons p b i));
       })
 
-  -- Over whole streams: on every device in rule at a packet boundary, the responses in order, the states and the unfinished packet
+  -- Over whole streams: on every device in rule with nothing half received, whatever its sum, the responses in order, the states and the unfinished packet
   -- are those of judging the stream's packets one after the other.
   pub follows : (b : List ℕ) → Claim b
   follows = packet-induction Claim follows-none follows-more
 
   -- And so however the stream was cut.
-  pub follows-pieces : (bs : List (List ℕ)) (d : Device) → Ready d → Between (d .receiver) → Follows d (joined bs) (served (serves out) d bs)
-  follows-pieces bs d k q = subst (Follows d (joined bs)) (sym (cut-anywhere out l d bs k)) (follows (joined bs) d k q)
+  pub follows-pieces : (bs : List (List ℕ)) (d : Device) → Boundary d → Follows d (joined bs) (served (serves out) d bs)
+  follows-pieces bs d z = subst (Follows d (joined bs)) (sym (cut-anywhere out l d bs (ready d z))) (follows (joined bs) d z)

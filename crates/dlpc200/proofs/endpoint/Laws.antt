@@ -3,25 +3,25 @@ use Prim.Native.Nat.{ℕ, _+_, _-_, _<_, _≤_}
 use mathlib.Core.Path.{_≡_, refl, ap, sym, subst, _∙_}
 use mathlib.Core.Bool.{Bool, true, false, cond}
 use mathlib.Core.List.{List, [], _∷_, _++_}
-use mathlib.Core.Option.{Option, none, some}
+use mathlib.Core.Option.{none, some}
 use native.Mathlib.Omega.{arith}
 use lib.Dec.{ltb}
-use borrow.Author.Tests.{lt-ltb, le-ltb, ltb-true, ltb-false}
+use borrow.Author.Tests.{lt-ltb, le-ltb, ltb-true}
 use lib.ListN.{length, take}
-use lib.Seq.{sets}
+use lib.Seq.{sets, length-sets, length-take-le}
 use Rattle.packet.specs.Packet.{payloadLength}
-use Rattle.packet.specs.Receiver.{with as packetWith, missing, completed}
-use Rattle.packet.specs.Calls.{Call, servedOne, served, joined}
-use Rattle.packet.proofs.Cases.{bool-cases, and-left, and-right, and-both}
-use Rattle.packet.proofs.ReceiverLaws.{missing-least}
+use Rattle.packet.specs.Receiver.{Receiver as PacketReceiver, Received, runningWith, with, missing, waiting as packetWaiting, completed, receiving as packetReceiving, packetInRule}
+use Rattle.packet.specs.Calls.{servedOne, served, joined}
+use Rattle.packet.proofs.Cases.{lt-cases, and-left, and-right, and-both}
+use Rattle.packet.proofs.ReceiverLaws.{running-anew, with-nil, hold-length, missing-least, after, cut, behind, waits, completes}
 use Rattle.packet.proofs.Calls.{Streaming, shifted, in-pieces}
-use Rattle.dlpc200.specs.Receiver.{framedBy, with, taking, receiving, packetInRule}
-use Rattle.dlpc200.specs.declared.receiver.Received.{Received}
-use Rattle.dlpc200.proofs.receiver.Laws.{Made, made-with, made-completed, received-none, after, cut, behind, waits, completes, no-bytes}
+use Rattle.dlpc200.specs.Packet.{afterCmd4}
+use Rattle.dlpc200.specs.Receiver.{framedBy, receiverOf, receiving}
 use Rattle.dlpc200.specs.States.{inRange}
 use Rattle.dlpc200.specs.declared.states.States.{States}
 use Rattle.dlpc200.proofs.judgement.Laws.{in-range-kept}
-use Rattle.dlpc200.specs.Endpoint.{Outcome, Refuses, Waits, Answers, judgedIn, responseIn, After, refused, waiting, answered, ended, receiveCall}
+use Rattle.packet.specs.Answer.{Waits}
+use Rattle.dlpc200.specs.Endpoint.{judgedIn, responseIn, After, refused, waiting, answered, ended, receiveCall, shown, serves, withSum, SumBegins}
 use Rattle.dlpc200.specs.Device.{inRule}
 use Rattle.dlpc200.specs.declared.device.Device.{Device}
 
@@ -35,61 +35,56 @@ pub out-of-rule : (d : Device) (b out : List ℕ) → 64 ≤ length out → inRu
 unfolding receiveCall
 out-of-rule d b out h r = rw (le-ltb (length out) 64 h, r)
 
--- what a call shows of its answer: the bytes taken, and the response at the output's start
-abbrev pub takenOf : Outcome → ℕ
-takenOf (Refuses n) = 0
-takenOf (Waits n) = n
-takenOf (Answers n m) = n
+-- a receiver as the code has it: its header has six bytes, and its ID two
+pub record Made (q : PacketReceiver) : Type 0 where
+  pub header : length (q .header) ≡ 6
+  pub id : length (q .hold) ≡ 2
 
-abbrev pub givenBy : Outcome → List ℕ → Option (List ℕ)
-givenBy (Refuses n) out = none
-givenBy (Waits n) out = none
-givenBy (Answers n m) out = some (take m out)
-
-abbrev pub shown : After → Call Device (List ℕ)
-shown r = record { taken = takenOf (r .answer); gives = givenBy (r .answer) (r .output); state = r .device }
-
--- the receive call with this output lent
-abbrev pub serves : List ℕ → Device → List ℕ → Call Device (List ℕ)
-serves out d b = shown (receiveCall d b out)
+made-with : (q : PacketReceiver) (b : List ℕ) → Made q → Made (with afterCmd4 q b)
+unfolding with
+made-with q b m = record { header = length-sets (q .header) (q .received) b ∙ m .header; id = hold-length afterCmd4 q b ∙ m .id }
 
 -- a device in rule, as the code has it
 pub record Ready (d : Device) : Type 0 where
   pub rule : inRule d ≡ true
-  pub made : Made (d .receiver)
+  pub made : Made (framedBy (d .receiver))
 
+-- the two parts of the rule
 range-of : (d : Device) → inRule d ≡ true → inRange (d .states) ≡ true
 range-of d h = and-left (inRange (d .states)) (packetInRule (d .receiver .header) (d .receiver .received)) h
 
 unfinished : (d : Device) → inRule d ≡ true → d .receiver .received < 7 + payloadLength (d .receiver .header)
 unfinished d h =
     ltb-true (d .receiver .received) (7 + payloadLength (d .receiver .header))
-    (and-right (inRange (d .states)) (ltb (d .receiver .received) (7 + payloadLength (d .receiver .header))) h)
+    (unfold packetInRule in and-right (inRange (d .states)) (packetInRule (d .receiver .header) (d .receiver .received)) h)
 
 pub rule-by : (d : Device) → inRange (d .states) ≡ true → d .receiver .received < 7 + payloadLength (d .receiver .header) → inRule d ≡ true
+unfolding packetInRule
 rule-by d h l =
     and-both (inRange (d .states)) (ltb (d .receiver .received) (7 + payloadLength (d .receiver .header))) h
     (lt-ltb (d .receiver .received) (7 + payloadLength (d .receiver .header)) l)
 
--- The two ends of a call that is not refused.
-module _ (d : Device) (b out : List ℕ) (k : Ready d) (l : 64 ≤ length out) where
-  pub not-refused : receiveCall d b out ≡ ended (d .states) (receiving (d .receiver) b) out
-  unfolding receiveCall
-  not-refused = rw (le-ltb (length out) 64 l, k .rule)
+-- the device with b received of the current packet
+abbrev pub deviceAfter : Device → List ℕ → Device
+deviceAfter d b = record { states = d .states; receiver = receiverOf (with afterCmd4 (framedBy (d .receiver)) b) }
 
+-- A call that is not refused,
+pub not-refused : (d : Device) (b out : List ℕ) → inRule d ≡ true → 64 ≤ length out → receiveCall d b out ≡ ended (d .states) (receiving (d .receiver) b) out
+unfolding receiveCall
+not-refused d b out r l = rw (le-ltb (length out) 64 l, r)
+
+-- and its two ends.
+module _ (d : Device) (b out : List ℕ) (k : Ready d) (l : 64 ≤ length out) where
   abbrev wanted : ℕ
   wanted = missing (framedBy (d .receiver)) b
 
-  call-waits : length b < wanted
-      → receiveCall d b out ≡ waiting (d .states) (record { taken = length b; complete = false; right = false; receiver = with (d .receiver) b }) out
-  call-waits h = not-refused ∙ ap (λ (t : Received). ended (d .states) t out) (waits (d .receiver) b h)
+  call-waits : length b < wanted → receiveCall d b out ≡ record { answer = Waits (length b); device = deviceAfter d b; output = out }
+  unfolding packetWaiting
+  call-waits h = not-refused d b out (k .rule) l ∙ ap (λ (t : Received). ended (d .states) t out) (waits afterCmd4 (framedBy (d .receiver)) b h)
 
-  call-answers : wanted ≤ length b → receiveCall d b out ≡ answered (d .states) (taking (d .receiver) b (completed (framedBy (d .receiver)) 0 b wanted)) out
-  unfolding taking completed
-  call-answers h = not-refused ∙ ap (λ (t : Received). ended (d .states) t out) (completes (d .receiver) b h)
-
-  by-ends : {P : Type 0} → (length b < wanted → P) → (wanted ≤ length b → P) → P
-  by-ends f g = bool-cases (ltb (length b) wanted) (λ e. f (ltb-true (length b) wanted e)) (λ e. g (ltb-false (length b) wanted e))
+  call-answers : wanted ≤ length b → receiveCall d b out ≡ answered (d .states) (completed afterCmd4 (framedBy (d .receiver)) b wanted) out
+  unfolding completed
+  call-answers h = not-refused d b out (k .rule) l ∙ ap (λ (t : Received). ended (d .states) t out) (completes afterCmd4 (framedBy (d .receiver)) b h)
 
 -- what is received of a packet that is not complete is short of its size
 few : (d : Device) (b : List ℕ) → inRule d ≡ true → length b < missing (framedBy (d .receiver)) b
@@ -98,44 +93,90 @@ unfolding missing
 few d [] r h = omega (arith, unfinished d r)
 few d (x ∷ b) r h = omega (arith, unfinished d r)
 
-ready-waiting : (d : Device) (b : List ℕ) → Ready d → length b < missing (framedBy (d .receiver)) b
-    → Ready (record { states = d .states; receiver = with (d .receiver) b })
+ready-waiting : (d : Device) (b : List ℕ) → Ready d → length b < missing (framedBy (d .receiver)) b → Ready (deviceAfter d b)
 ready-waiting d b k h =
     record {
-      rule = rule-by (record { states = d .states; receiver = with (d .receiver) b }) (range-of d (k .rule)) (unfold with packetWith in few d b (k .rule) h);
-      made = made-with (d .receiver) b (k .made);
+      rule = rule-by (deviceAfter d b) (range-of d (k .rule)) (unfold with in few d b (k .rule) h);
+      made = made-with (framedBy (d .receiver)) b (k .made);
     }
 
 -- a complete packet leaves the device in rule
-ready-answered : (d : Device) (b out : List ℕ) (n : ℕ) → Ready d → Ready (answered (d .states) (taking (d .receiver) b (completed (framedBy (d .receiver)) 0 b n)) out .device)
+ready-answered : (d : Device) (b out : List ℕ) (n : ℕ) → Ready d → Ready (answered (d .states) (completed afterCmd4 (framedBy (d .receiver)) b n) out .device)
+unfolding completed
 ready-answered d b out n k =
-    let t : Received = taking (d .receiver) b (completed (framedBy (d .receiver)) 0 b n) in
+    let t : Received = completed afterCmd4 (framedBy (d .receiver)) b n in
     record {
-      rule =
-          rule-by (answered (d .states) t out .device) (in-range-kept (d .states) (judgedIn t) (range-of d (k .rule)))
-          (omega (arith, received-none (d .receiver) b n));
-      made = made-completed (d .receiver) b n (k .made);
+      rule = rule-by (answered (d .states) t out .device) (in-range-kept (d .states) (judgedIn t) (range-of d (k .rule))) (omega arith);
+      made = let m = made-with (framedBy (d .receiver)) (take (n - 1) b) (k .made) in record { header = m .header; id = m .id };
     }
 
 -- In rule stays in rule, whatever bytes come.
 pub stays-in-rule : (d : Device) (b out : List ℕ) → Ready d → 64 ≤ length out → Ready (receiveCall d b out .device)
 stays-in-rule d b out k l =
-    by-ends d b out k l
+    lt-cases (length b) (missing (framedBy (d .receiver)) b)
     (λ h. subst (λ (r : After). Ready (r .device)) (sym (call-waits d b out k l h)) (ready-waiting d b k h))
     (λ h. subst (λ (r : After). Ready (r .device)) (sym (call-answers d b out k l h)) (ready-answered d b out (missing (framedBy (d .receiver)) b) k))
+
+-- With up to four bytes received the sum begins anew.
+
+-- the receiver with another sum
+abbrev otherSum : PacketReceiver → ℕ → PacketReceiver
+otherSum q n = record { header = q .header; running = n; received = q .received; hold = q .hold }
+
+module _ (q : PacketReceiver) (n : ℕ) (l : q .received ≤ afterCmd4) where
+  with-anew : (b : List ℕ) → afterCmd4 < q .received + length b → with afterCmd4 (otherSum q n) b ≡ with afterCmd4 q b
+  unfolding with
+  with-anew b m =
+      let e : runningWith afterCmd4 (q .received) n b ≡ runningWith afterCmd4 (q .received) (q .running) b =
+      sym (running-anew afterCmd4 (q .received) n b (omega arith) l refl) ∙ running-anew afterCmd4 (q .received) (q .running) b (omega arith) l refl in
+      rw e
+
+  waiting-anew : (b : List ℕ) → afterCmd4 < q .received + length b → packetWaiting afterCmd4 (otherSum q n) b ≡ packetWaiting afterCmd4 q b
+  unfolding packetWaiting
+  waiting-anew b m = rw (with-anew b m)
+
+  -- before the checksum stands the length at least
+  length-before : (b : List ℕ) → missing q b ≤ length b → afterCmd4 < q .received + length (take (missing q b - 1) b)
+  unfolding missing
+  length-before b m = omega (arith, length-take-le (missing q b - 1) b (omega arith))
+
+  completed-anew : (b : List ℕ) → missing q b ≤ length b → completed afterCmd4 (otherSum q n) b (missing q b) ≡ completed afterCmd4 q b (missing q b)
+  unfolding completed
+  completed-anew b m = rw (with-anew (take (missing q b - 1) b) (length-before b m))
+
+  missing-anew : (b : List ℕ) → missing (otherSum q n) b ≡ missing q b
+  unfolding missing
+  missing-anew b = refl
+
+  receiving-anew : (b : List ℕ) → afterCmd4 < q .received + length b → packetReceiving afterCmd4 (otherSum q n) b ≡ packetReceiving afterCmd4 q b
+  receiving-anew b m =
+      lt-cases (length b) (missing q b)
+      (λ h. waits afterCmd4 (otherSum q n) b (omega (arith, missing-anew b)) ∙ waiting-anew b m ∙ sym (waits afterCmd4 q b h))
+      (λ h.
+      completes afterCmd4 (otherSum q n) b (omega (arith, missing-anew b))
+      ∙ ap (completed afterCmd4 (otherSum q n) b) (missing-anew b)
+      ∙ completed-anew b h
+      ∙ sym (completes afterCmd4 q b h))
+
+pub sum-begins : SumBegins
+sum-begins d n b out l r h m =
+    not-refused (withSum d n) b out r l
+    ∙ ap (λ (t : Received). ended (d .states) t out) (receiving-anew (framedBy (d .receiver)) n h b m)
+    ∙ sym (not-refused d b out r l)
 
 -- The receive call over a stream.
 module _ (out : List ℕ) (l : 64 ≤ length out) where
   none-waits : (d : Device) (a : List ℕ) → Ready d → serves out d a .gives ≡ none → length a < missing (framedBy (d .receiver)) a
   none-waits d a k g =
-      by-ends d a out k l (λ h. h)
+      lt-cases (length a) (missing (framedBy (d .receiver)) a)
+      (λ h. h)
       (λ h.
       let e = sym (ap (λ (r : After). shown r .gives) (call-answers d a out k l h)) ∙ g in
       let z : _≡_ {A = ℕ} 0 1 = cc in absurd (omega arith))
 
   some-answers : (d : Device) (a e : List ℕ) → Ready d → serves out d a .gives ≡ some e → missing (framedBy (d .receiver)) a ≤ length a
   some-answers d a e k g =
-      by-ends d a out k l
+      lt-cases (length a) (missing (framedBy (d .receiver)) a)
       (λ h.
       let e = sym (ap (λ (r : After). shown r .gives) (call-waits d a out k l h)) ∙ g in
       let z : _≡_ {A = ℕ} 0 1 = cc in absurd (omega arith))
@@ -148,30 +189,34 @@ module _ (out : List ℕ) (l : 64 ≤ length out) where
   shown-by s n t false = refl
 
   cut-call : (d : Device) (a b : List ℕ) → Ready d → length a < missing (framedBy (d .receiver)) a
-      → serves out d (a ++ b) ≡ shifted (length a) (serves out (record { states = d .states; receiver = with (d .receiver) a }) b)
+      → serves out d (a ++ b) ≡ shifted (length a) (serves out (deviceAfter d a) b)
   cut-call d a b k h =
-      let t : Received = receiving (with (d .receiver) a) b in
-      ap shown (not-refused d (a ++ b) out k l)
-      ∙ ap (λ (t : Received). shown (ended (d .states) t out)) (cut (d .receiver) a b (k .made .header) h)
+      let t : Received = receiving (deviceAfter d a .receiver) b in
+      ap shown (not-refused d (a ++ b) out (k .rule) l)
+      ∙ ap (λ (t : Received). shown (ended (d .states) t out)) (cut afterCmd4 (framedBy (d .receiver)) a b (k .made .header) h)
       ∙ shown-by (d .states) (length a) t (t .complete)
-      ∙ ap (λ (r : After). shifted (length a) (shown r))
-      (sym (not-refused (record { states = d .states; receiver = with (d .receiver) a }) b out (ready-waiting d a k h) l))
+      ∙ ap (λ (r : After). shifted (length a) (shown r)) (sym (not-refused (deviceAfter d a) b out (ready-waiting d a k h .rule) l))
 
   behind-call : (d : Device) (a b : List ℕ) → Ready d → missing (framedBy (d .receiver)) a ≤ length a → serves out d (a ++ b) ≡ serves out d a
   behind-call d a b k h =
-      ap shown (not-refused d (a ++ b) out k l)
-      ∙ ap (λ (t : Received). shown (ended (d .states) t out)) (behind (d .receiver) a b (k .made .header) h)
-      ∙ sym (ap shown (not-refused d a out k l))
+      ap shown (not-refused d (a ++ b) out (k .rule) l)
+      ∙ ap (λ (t : Received). shown (ended (d .states) t out)) (behind afterCmd4 (framedBy (d .receiver)) a b (k .made .header) h)
+      ∙ sym (ap shown (not-refused d a out (k .rule) l))
+
+  no-bytes : (d : Device) → Ready d → serves out d [] ≡ record { taken = 0; gives = none; state = d }
+  no-bytes d k =
+      ap shown (call-waits d [] out k l (omega (arith, missing-least (framedBy (d .receiver)) [])))
+      ∙ ap (λ (q : PacketReceiver). record { taken = 0; gives = none; state = record { states = d .states; receiver = receiverOf q } }) (with-nil afterCmd4 (framedBy (d .receiver)))
 
   count-answers : (d : Device) (a : List ℕ) → Ready d → missing (framedBy (d .receiver)) a ≤ length a → serves out d a .taken ≡ missing (framedBy (d .receiver)) a
-  unfolding taking completed
+  unfolding completed
   count-answers d a k h = ap (λ (r : After). shown r .taken) (call-answers d a out k l h)
 
   pub endpoint-streams : Streaming (serves out) Ready
   endpoint-streams =
       record {
         keeps = λ d b k. stays-in-rule d b out k l;
-        empty = λ d k. ap shown (not-refused d [] out k l) ∙ ap (λ (t : Received). shown (ended (d .states) t out)) (no-bytes (d .receiver) (k .made .sum));
+        empty = λ d k. no-bytes d k;
         cut = λ d a b k g.
             let h = none-waits d a k g in
             cut-call d a b k h ∙ ap (λ (x : Device). shifted (length a) (serves out x b)) (sym (ap (λ (r : After). r .device) (call-waits d a out k l h)));

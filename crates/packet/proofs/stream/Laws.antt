@@ -9,7 +9,7 @@ use borrow.Author.Tests.{leb-true, le-leb, lt-leb}
 use lib.ListN.{length, take, drop, getD, length-append, take-append-drop, length-drop, List·getD-append}
 use lib.Seq.{drop-append-add, take-at, drop-at, getD-drop, getD-take, take-take, length-take-le}
 use Rattle.packet.specs.Number.{Bytes}
-use Rattle.packet.specs.Packet.{payloadLength, checksum, rightSum}
+use Rattle.packet.specs.Packet.{payloadLength, payload, checksum, rightSum}
 use Rattle.packet.specs.Stream.{nextIn, size, hasPacket, packetsIn, packets, bytesIn, rest}
 use Rattle.packet.specs.declared.stream.Next.the-variants.{Packet, Nothing}
 use Rattle.packet.proofs.Cases.{cond-cases, bool-cases, and-right, and-both}
@@ -190,6 +190,11 @@ right-front b h =
       getD-take (7 + payloadLength b) b (6 + payloadLength b) 0 (omega arith),
       take-take (6 + payloadLength b) (7 + payloadLength b) b (omega arith),
     )
+
+-- the payload of a whole packet has the length that the packet says
+pub payload-length : (p : List ℕ) → size p ≡ length p → length (payload p) ≡ payloadLength p
+unfolding payload size
+payload-length p e = length-take-le (payloadLength p) (drop 6 p) (simp length-drop (omega (arith, e)))
 
 -- "A packet is 7 to 65,542 bytes"
 pub size-most : (b : List ℕ) → Bytes b → size b ≤ 65542

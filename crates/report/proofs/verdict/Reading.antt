@@ -14,8 +14,8 @@ use Rattle.packet.proofs.NumberLaws.{bytes-take, bytes-drop, bytes-value, value
 use Rattle.command.specs.Player.{isNil}
 use Rattle.report.specs.Record.{Out, Bad, Good, _>>=_, _>>_, need, Piece, sized, reading}
 use Rattle.report.specs.Report.{Trial, Trials, Report, readTrials, readHead, readEnd, readReport}
-use Rattle.report.specs.Claim.{recordOf, headOf, trialOf, trialRecords, reportOf, Scores}
-use Rattle.report.specs.Refusals.{Begins, Due, Head, More, Winner, Shipping, Layout, WrongLength, NotFour, UnderFour, NotTwo, Fault, F11, F12, F13, F14, F15, F16, F20, Refusal, Long, Later}
+use Rattle.report.specs.Claim.{recordOf, headOf, trialOf, trialRecords, reportOf, Scores, Layout}
+use Rattle.report.specs.Refusals.{Begins, Due, Head, More, Winner, Shipping, WrongLength, NotFour, UnderFour, NotTwo, Fault, F11, F12, F13, F14, F15, F16, F20, Refusal, Long, Later}
 use Rattle.report.proofs.verdict.Laid.{length-record, length-report}
 
 -- A reading ends with a refusal of which R holds, or with a value of which P holds.

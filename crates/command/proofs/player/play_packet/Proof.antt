@@ -25,10 +25,9 @@ returns c =
     let s = j .before .before .before .before .before .before .before .before .before .before .before in
     let a = s .args in
     let n : length (now (a .buffer)) ≡ 1024 = search needs in
-    let t = c .before .transfer-after .ensures in
-    (
+    let t = c .before .transfer-after .ensures in (
       rw (c .before .before .before .settings-after .ensures, t .0, t .1)
-      (next-packet (a .s) (a .t) (now (a .buffer)) (now (a .p)) (s .pre .4) n (s .pre .2) (s .pre .3) refl (j .judge .ensures)),
+          (next-packet (a .s) (a .t) (now (a .buffer)) (now (a .p)) (s .pre .4) n (s .pre .2) (s .pre .3) refl (j .judge .ensures)),
       ap (λ (k : ℕ). eqb k writeResponse) (c .response-type .ensures)
           ∙ ap acknowledged (judged-packet (a .s) (a .t) (now (a .buffer)) (now (a .p)) (s .pre .4) n (s .pre .2) (s .pre .3) refl (j .judge .ensures)),
       rw (t .0) (rule-kept (a .s) (a .t) (now (a .buffer)) (now (a .p)) (s .pre .4) n (s .pre .2) (s .pre .3) refl (j .judge .ensures)),

@@ -2,14 +2,15 @@
 use mathlib.Core.Path.{_≡_, refl, ap, _∙_}
 use denote.Struct.Laws.{tells, owed}
 use Rattle.packet.proofs.Lending.{Call, struct-held, enum-held, lending, steps}
-use Rattle.dlpc200.specs.Endpoint.{outcomeOf, receiveCall}
+use Rattle.packet.specs.Answer.{outcomeOf}
+use Rattle.dlpc200.specs.Endpoint.{receiveCall}
 use Rattle.dlpc200.specs.Exports.{replyOf}
 use Rattle.dlpc200.proofs.device.Device as T
 use Rattle.dlpc200.proofs.device.Device.Laws as T′
 use Rattle.dlpc200.proofs.endpoint.Step as S
 use Rattle.dlpc200.proofs.endpoint.Step.Laws as S′
-use Rattle.dlpc200.proofs.endpoint.Answer as N
-use Rattle.dlpc200.proofs.endpoint.Answer.Laws as N′
+use Rattle.packet.proofs.answer.Answer as N
+use Rattle.packet.proofs.answer.Answer.Laws as N′
 use Rattle.dlpc200.proofs.exports.Reply as E
 use Rattle.dlpc200.proofs.exports.Reply.Laws as E′
 use Rattle.dlpc200.proofs.endpoint.receive.Symbol as receive

@@ -27,4 +27,4 @@ put-state-spec =
     (λ c. simp length-set (omega arith))
     (λ c. simp length-set (omega arith))
     (λ c. simp length-set (omega arith))
-    (λ c. search needs) returns)
+    (λ c. search needs) (λ c. search needs) returns)

@@ -26,4 +26,4 @@ put-status-spec =
     (λ c κs. search needs) (λ c κs. search needs) (λ c κs. search needs) (λ c. search needs)
     (λ c. simp length-set (omega arith))
     (λ c. simp length-set (omega arith))
-    (λ c. search needs) returns)
+    (λ c. search needs) (λ c. search needs) returns)

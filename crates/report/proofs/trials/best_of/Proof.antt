@@ -36,11 +36,10 @@ loop-holds c =
 
 returns : tie.Need-returns Inv-loop μ-loop
 returns c =
-    let o = c .before .enum-told .given in
-    let p = c .before .before .before in
+    let o = c .enum-told .given in
+    let p = c .before .before in
     let l = p .before .before in
-    let b = c .missing .result in
-    subst (λ (x : Outcome). BestAt (reportIn l) (l .before .before .before .args .count) x (b .trial) (b .score) (b .settings)) (sym (c .missing .ensures ∙ o .1))
+    subst (λ (x : Outcome). BestAt (reportIn l) (l .before .before .before .args .count) x 0 0 (l .before .factory .result)) (sym (o .1))
     (walked-missed (l .loop .inv .1) (p .before .loop-test .taken) (missed (reportIn l) 2 (l .loop .at) (o .1) (p .record-at .ensures)))
 
 -- the packets of a trial stand from byte 8 of its record to its end
@@ -81,7 +80,7 @@ pub best-of-spec : {M : Type 1} → statement M
 best-of-spec =
     tie.close
     (tie.spec Inv-loop μ-loop (λ c κs. search needs) loop-holds (λ c κs. c .before .loop .inv .1 .within)
-    (λ c. search needs) (λ c. search needs) (λ c κs. search needs) returns (λ c. search needs)
+    (λ c. search needs) (λ c. search needs) returns (λ c. search needs)
     (λ c. omega (arith, found-trial (c .before) .within)) (λ c. omega (arith, found-trial (c .before) .within))
     (λ c κs. omega (arith, found-trial (c .before) .within, size-trial (found-trial (c .before))))
     (λ c. omega (arith, inside c, found-trial (c .before .before) .within)) (λ c. omega (arith, inside c))

@@ -8,4 +8,4 @@ in-rule-spec =
     tie.close
     (tie.spec
     (λ c κs. search needs) (λ c κs. search needs)
-    (λ c. rw (c .before .in-range .ensures, c .unfinished .ensures)))
+    (λ c. rw (c .before .in-range .ensures, c .packet-in-rule .ensures)))

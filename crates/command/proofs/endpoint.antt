@@ -1,0 +1,3 @@
+-- The laws of endpoint.
+pub mod Laws
+pub mod Boundary

@@ -1,0 +1,198 @@
+-- The receive call at a packet boundary: it does what document 01 says of the packet that stands there, and so do the calls on a stream.
+use Prim.Native.Nat.{ℕ, suc, _+_, _≤_}
+use mathlib.Core.Path.{_≡_, refl, ap, ap₂, sym, subst, _∙_}
+use mathlib.Core.Bool.{false}
+use mathlib.Core.List.{List, _∷_, _++_}
+use mathlib.Core.Option.{some}
+use native.Mathlib.Nat.{zero-add}
+use native.Mathlib.Omega.{arith}
+use lib.ListN.{length, take, drop, length-append, length-drop}
+use lib.Seq.{sets, sets-eq, getD-take, take-at, length-take-le, drop-at}
+use Rattle.packet.specs.Answer.{Answers}
+use Rattle.packet.specs.Calls.{Call, Served, andThen, callsOn, servedOne}
+use Rattle.packet.specs.Packet.{payloadLength, payload, rightSum}
+use Rattle.packet.specs.Receiver.{Received, with, waiting as receiverWaiting}
+use Rattle.packet.specs.Stream.{size, hasPacket, packets}
+use Rattle.packet.specs.Writer.{written}
+use Rattle.packet.proofs.Cases.{bool-cases}
+use Rattle.packet.proofs.Calls.{same-calls}
+use Rattle.packet.proofs.StreamLaws.{IsPacket, payload-length, packets-cons, rest-cons, packets-none, rest-none, packet-induction}
+use Rattle.packet.proofs.ReceiverLaws.{Between, between-packet, one, first-of, too-few}
+use Rattle.command.specs.Table.{commandOf}
+use Rattle.command.specs.Transfer.{Transfer, Opened, held}
+use Rattle.command.specs.Faults.{Arrived, arrived, faults, anyFault}
+use Rattle.command.specs.Judgement.{judgeAs, judge}
+use Rattle.command.specs.Carry.{settingsAfter, transferAfter}
+use Rattle.command.specs.Response.{response}
+use Rattle.command.specs.Player.{State, judged, next, responses, after}
+use Rattle.command.specs.Controller.{heldIn, stateOf, receiverIn}
+use Rattle.command.specs.Endpoint.{arrivedIn, judgedIn, responseIn, carriedOut, After, waiting, receiveCall}
+use Rattle.command.specs.Sending.{Ready, Sending, sentTo, Boundary}
+use Rattle.command.specs.Demand2.{Follows}
+use Rattle.command.specs.declared.table.Found.{Found}
+use Rattle.command.specs.declared.table.Found.the-variants.{Known, Unknown}
+use Rattle.command.specs.declared.judgement.Judgement.{Judgement}
+use Rattle.command.specs.declared.judgement.Judgement.the-variants.{Error, Hold, Write, Read}
+use Rattle.command.specs.declared.controller.Controller.{Controller}
+use Rattle.command.proofs.table.Laws.{found}
+use Rattle.command.proofs.transfer.Laws.{fits-hold, held-is, held-length}
+use Rattle.command.proofs.carry.Laws.{Bounded, bounded, stored-part, carried-transfer}
+use Rattle.command.proofs.controller.Laws.{rule-parts}
+use Rattle.command.proofs.endpoint.Laws.{servesWith, call-is, stays-in-rule, endpoint-streams, at-once}
+
+-- a packet with another payload
+abbrev withBody : Arrived → List ℕ → Arrived
+withBody p b =
+    record { type = p .type; cmd1 = p .cmd1; cmd2 = p .cmd2; flags = p .flags; size = p .size; right = p .right; body = b }
+
+-- a payload that is too long does not matter
+judge-body : (mode : ℕ) (t : Transfer) (p : Arrived) (b : List ℕ) → (length (held t) + p .size ≤ 1024 → b ≡ p .body) → judge mode t (withBody p b) ≡ judge mode t p
+unfolding judge
+judge-body mode t p b h = go (commandOf (p .cmd1) (p .cmd2))
+  where
+    go : (f : Found) → judgeAs f mode t (withBody p b) ≡ judgeAs f mode t p
+    go Unknown = unfold judgeAs faults in refl
+    go (Known c) = unfold judgeAs faults in bool-cases (anyFault (faults (Known c) t p)) (λ e. rw e) (λ e. rw (h (fits-hold (Known c) t p e)))
+
+-- One whole packet, from a packet boundary.
+module _ (c : Controller) (k : Ready c) (p : List ℕ) (i : IsPacket p) where
+  abbrev complete : Received
+  complete = one 0 (receiverIn c) p
+
+  -- the payload, as far as there is room for it
+  abbrev body : List ℕ
+  body = take (payloadLength p) (sets (c .hold) 0 (payload p))
+
+  whole-body : payloadLength p ≤ 1024 → body ≡ payload p
+  whole-body l = rw (zero-add (payloadLength p)) at (stored-part (c .hold) (payload p) 0 (payloadLength p) (payload-length p (i .exact)) (omega (arith, k .hold)))
+
+  held-same : length (held (stateOf c .transfer)) ≡ heldIn (c .registers .transfer)
+  held-same = held-length (c .registers .transfer) (rule-parts (c .registers) (k .rule) .transfer) (c .buffer) (k .buffer)
+
+  -- it is judged as document 01 judges its bytes
+  seen : arrivedIn complete ≡ withBody (arrived p) body
+  unfolding rightSum
+  seen =
+      rw (
+        getD-take 6 p 0 0 (omega arith),
+        getD-take 6 p 1 0 (omega arith),
+        getD-take 6 p 2 0 (omega arith),
+        getD-take 6 p 3 0 (omega arith),
+        getD-take 6 p 4 0 (omega arith),
+        getD-take 6 p 5 0 (omega arith),
+      )
+
+  judged-same : judgedIn c complete ≡ judged (stateOf c) p
+  unfolding judgedIn judged
+  judged-same =
+      ap (judge (c .registers .settings .mode) (stateOf c .transfer)) seen
+      ∙ judge-body (c .registers .settings .mode) (stateOf c .transfer) (arrived p) body (λ l. whole-body (omega arith))
+
+  response-same : responseIn c complete ≡ response (c .registers .settings) (arrived p) (judged (stateOf c) p)
+  unfolding responseIn response
+  response-same = ap₂ (response (c .registers .settings)) seen judged-same
+
+  -- and leaves the state that document 01 says
+  carried-state : (j : Judgement) → Bounded (heldIn (c .registers .transfer) + payloadLength p) j → stateOf (carriedOut c complete j) ≡ record {
+    settings = settingsAfter (c .registers .settings) j;
+    transfer = transferAfter (stateOf c .transfer) (arrived p) j;
+  }
+  carried-state j b =
+      ap (λ (t : Transfer). record { settings = settingsAfter (c .registers .settings) j; transfer = t })
+      (carried-transfer (c .registers .transfer) (c .buffer) (arrivedIn complete .body) (arrived p) j (rule-parts (c .registers) (k .rule) .transfer) (k .buffer)
+      (payload-length p (i .exact)) (λ l. ap (λ (q : Arrived). q .body) seen ∙ whole-body l) b)
+
+  state-same : stateOf (carriedOut c complete (judgedIn c complete)) ≡ next (stateOf c) p
+  unfolding next judged
+  state-same =
+      ap (λ (j : Judgement). stateOf (carriedOut c complete j)) judged-same
+      ∙ carried-state (judged (stateOf c) p)
+      (subst (λ (n : ℕ). Bounded (n + payloadLength p) (judged (stateOf c) p)) held-same
+      (bounded (c .registers .settings .mode) (stateOf c .transfer) (arrived p)))
+
+-- what a packet draws
+abbrev pub drawn : Controller → List ℕ → List ℕ
+drawn c p = response (c .registers .settings) (arrived p) (judged (stateOf c) p)
+
+-- what a call does that completes the packet p
+pub record Takes (out : List ℕ) (c : Controller) (p : List ℕ) (r : After) : Type 0 where
+  pub answer : r .answer ≡ Answers (length p) (length (drawn c p))
+  pub output : r .output ≡ written (drawn c p) out
+  pub state : stateOf (r .controller) ≡ next (stateOf c) p
+  pub ready : Ready (r .controller)
+  pub boundary : Between (receiverIn (r .controller))
+
+module _ (out : List ℕ) (l : 64 ≤ length out) (c : Controller) (k : Ready c) (q : Between (receiverIn c)) where
+  pub takes-packet : (p b : List ℕ) → IsPacket p → Takes out c p (receiveCall c (p ++ b) out)
+  takes-packet p b i =
+      let e = call-is c (p ++ b) out k l (first-of 0 (receiverIn c) q p b (omega arith) i) in
+      record {
+        answer = ap (λ (r : After). r .answer) e ∙ ap (λ (m : List ℕ). Answers (length p) (length m)) (response-same c k p i);
+        output = ap (λ (r : After). r .output) e ∙ ap (λ (m : List ℕ). written m out) (response-same c k p i);
+        state = ap (λ (r : After). stateOf (r .controller)) e ∙ state-same c k p i;
+        ready = stays-in-rule c (p ++ b) out k l;
+        boundary = subst (λ (r : After). Between (receiverIn (r .controller))) (sym e) (between-packet (receiverIn c) p i);
+      }
+
+  -- too few bytes for a packet are all taken
+  pub takes-part : (b : List ℕ) → hasPacket b ≡ false → receiveCall c b out ≡ waiting c (receiverWaiting 0 (receiverIn c) b) out
+  unfolding receiverWaiting
+  takes-part b h = call-is c b out k l (too-few 0 (receiverIn c) q b h)
+
+between-of : {c : Controller} → Boundary c → Between (receiverIn c)
+between-of q = record { header = q .ready .header; received = q .received }
+
+-- The stream at once, packet by packet.
+module _ (out : List ℕ) (l : 64 ≤ length out) where
+  -- the claim for one stream
+  abbrev Claim : List ℕ → Type 0
+  Claim b = (c : Controller) → Boundary c → Follows c b (servedOne (servesWith out) c b)
+
+  follows-none : (b : List ℕ) → hasPacket b ≡ false → Claim b
+  unfolding servedOne callsOn responses after receiverWaiting
+  follows-none b h c q =
+      let e = takes-part out l c (q .ready) (between-of q) b h in
+      rw e
+      (record {
+        given = sym (ap (responses (stateOf c)) (packets-none b h));
+        ends = sym (ap (after (stateOf c)) (packets-none b h));
+        base = receiverIn c;
+        boundary = q .received;
+        unfinished = ap (with 0 (receiverIn c)) (sym (rest-none b h));
+        ready = subst (λ (r : After). Ready (r .controller)) e (stays-in-rule c b out (q .ready) l);
+      })
+
+  -- one packet more
+  follows-more : (p b : List ℕ) → IsPacket p → Claim b → Claim (p ++ b)
+  unfolding servedOne callsOn responses after written
+  follows-more p b i ih c q =
+      let t = takes-packet out l c (q .ready) (between-of q) p b i in
+      let d : Controller = receiveCall c (p ++ b) out .controller in
+      let m : List ℕ = drawn c p in
+      let n : length (p ++ b) ≡ length p + length b = length-append p b in
+      let e : servesWith out c (p ++ b) ≡ record { taken = length p; gives = some m; state = d } =
+      rw (t .answer, t .output, take-at m (drop (length m) out) (length m) refl) in
+      let more : callsOn (servesWith out) (length (p ++ b)) d (drop (length p) (p ++ b)) ≡ servedOne (servesWith out) d b =
+      ap (callsOn (servesWith out) (length (p ++ b)) d) (drop-at p b (length p) refl)
+      ∙ same-calls (servesWith out) Ready (endpoint-streams out l) (length (p ++ b)) (suc (length b)) d b (t .ready) (omega (arith, i .least)) (omega arith) in
+      let f : servedOne (servesWith out) c (p ++ b) ≡ record { given = m ∷ servedOne (servesWith out) d b .given; state = servedOne (servesWith out) d b .state } =
+      ap (λ (x : Call Controller (List ℕ)). andThen (x .gives) (x .state) (callsOn (servesWith out) (length (p ++ b)) (x .state) (drop (x .taken) (p ++ b)))) e
+      ∙ ap (λ (x : Served Controller (List ℕ)). andThen (some m) d x) more in
+      let g = ih d (record { ready = t .ready; received = t .boundary .received }) in
+      subst (Follows c (p ++ b)) (sym f)
+      (record {
+        given = rw (packets-cons p b i) (ap {B = List (List ℕ)} (λ xs. m ∷ xs) (g .given ∙ ap (λ (a : State). responses a (packets b)) (t .state)));
+        ends = rw (packets-cons p b i) (g .ends ∙ ap (λ (a : State). after a (packets b)) (t .state));
+        base = g .base;
+        boundary = g .boundary;
+        unfinished = rw (rest-cons p b i) (g .unfinished);
+        ready = g .ready;
+      })
+
+  follows-once : (b : List ℕ) → Claim b
+  follows-once = packet-induction Claim follows-none follows-more
+
+-- Responses and settings follow document 01.
+pub follows-played : (c : Controller) (b : List ℕ) (s : Sending b) → Boundary c → Follows c b (sentTo c s)
+follows-played c b s q =
+    subst (Follows c b) (sym (at-once (s .outs 0) (s .room 0) c b s (q .ready))) (follows-once (s .outs 0) (s .room 0) b c q)

@@ -1,2 +1,0 @@
--- The laws of receiver.
-pub mod Laws
