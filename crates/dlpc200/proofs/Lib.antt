@@ -1,3 +1,5 @@
 -- The laws of dlpc200.
 pub mod Playing
+pub mod Refusals
+pub mod Request1
 pub mod Examples

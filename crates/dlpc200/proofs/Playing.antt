@@ -17,7 +17,7 @@ use Rattle.dlpc200.specs.declared.judgement.Judgement.the-variants.{Fail
 use Rattle.dlpc200.specs.declared.states.States.{States}
 use Rattle.dlpc200.proofs.judgement.Laws as judgements
 use Rattle.dlpc200.specs.Playing.{judged, answerTo, next, responses, after}
-use Rattle.dlpc200.specs.Parking.{NoneParks}
+use Rattle.dlpc200.specs.Request1.{NoneParks}
 
 -- A failed packet leaves every state, and packets that all fail do.
 

@@ -1,4 +1,3 @@
 -- The laws of the receive call.
 pub mod Laws
 pub mod Following
-pub mod Parking

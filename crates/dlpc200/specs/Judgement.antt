@@ -28,25 +28,17 @@ pub record Arrived : Type 0 where
 unfoldable pub commandIn : ℕ → List ℕ → Found
 commandIn n d = cond (ltb n 2) Unknown (commandOf (idOf d))
 
--- the packet of this command and header, and a checksum that was right or not
-abbrev pub arrivedOf : Found → List ℕ → Bool → Arrived
-arrivedOf c h right =
-    record {
-      cmd1 = cmd1Of h;
-      cmd2 = cmd2Of h;
-      cmd4 = cmd4Of h;
-      size = payloadLength h;
-      right = right;
-      command = c;
-    }
-
--- d being its first data bytes
-abbrev pub arrivedBy : List ℕ → List ℕ → Bool → Arrived
-arrivedBy h d right = arrivedOf (commandIn (payloadLength h) d) h right
-
 -- the packet of these bytes
 abbrev pub arrived : List ℕ → Arrived
-arrived p = arrivedBy p (payload p) (rightSum p)
+arrived p =
+    record {
+      cmd1 = cmd1Of p;
+      cmd2 = cmd2Of p;
+      cmd4 = cmd4Of p;
+      size = payloadLength p;
+      right = rightSum p;
+      command = commandIn (payloadLength p) (payload p);
+    }
 
 -- The faults of the request; every one that holds is set.
 

@@ -9,7 +9,8 @@ pub mod Playing
 pub mod Receiver
 pub mod Device
 pub mod Endpoint
-pub mod Parking
+pub mod Sending
+pub mod Request1
 pub mod Exports
 pub mod Examples
 pub mod Inner

@@ -12,7 +12,8 @@ use crate::table::Found;
 use packet::HEADER;
 ghost use mathlib.Core.Path.{_≡_};
 ghost use Rattle.packet.specs.Packet.{payloadLength};
-ghost use Rattle.dlpc200.specs.Judgement.{arrivedBy, arrivedOf, commandIn, faultsOf, judge as judgeOf, statesAfter, wrongCmd1, wrongSize};
+ghost use Rattle.dlpc200.specs.Inner.{arrivedBy, arrivedOf};
+ghost use Rattle.dlpc200.specs.Judgement.{commandIn, faultsOf, judge as judgeOf, statesAfter, wrongCmd1, wrongSize};
 
 // What a complete packet comes to.
 pub(crate) enum Judgement {

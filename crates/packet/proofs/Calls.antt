@@ -1,12 +1,13 @@
--- Cutting a stream anywhere, into any number of calls, changes nothing: for every call that keeps the laws of `Streaming`.
+-- Cutting a stream anywhere, into any number of calls, changes nothing: for every call that keeps the laws of `Streaming`, and with an output of its own for each
+-- call, where what a call shows does not depend on the output lent.
 use Prim.Native.Nat.{ℕ, zero, suc, _+_, _<_, _≤_}
-use mathlib.Core.Path.{_≡_, refl, sym, ap, _∙_}
+use mathlib.Core.Path.{_≡_, refl, sym, ap, subst, _∙_}
 use mathlib.Core.List.{List, [], _∷_, _++_}
 use mathlib.Core.Option.{Option, none, some}
 use native.Mathlib.Omega.{arith}
 use lib.ListN.{length, drop, length-append, length-drop}
 use lib.Seq.{drop-append-add, drop-append-le}
-use Rattle.packet.specs.Calls.{Call, Served, andThen, callsOn, servedOne, served, joined}
+use Rattle.packet.specs.Calls.{Call, Served, andThen, callsOn, servedOne, served, joined, Counted, lent, Sending, sent}
 
 pub option-cases : {E P : Type 0} (o : Option E) → (o ≡ none → P) → ((e : E) → o ≡ some e → P) → P
 option-cases none f g = f refl
@@ -123,3 +124,56 @@ module _ {S E : Type 0} (call : S → List ℕ → Call S E) (I : S → Type 0) 
   in-pieces s (b ∷ bs) i =
       ap (followed (callsOn call (suc (length b)) s b)) (in-pieces (callsOn call (suc (length b)) s b .state) bs (keeps-calls (suc (length b)) s b i))
       ∙ sym (join-calls (suc (length b)) s b (joined bs) i (omega arith))
+
+-- Calls with an output each are as good as calls with one, where a call shows the same with every output that is long enough.
+pub record AnyOutput {S E : Type 0} (call : List ℕ → S → List ℕ → Call S E) (I : S → Type 0) (shortest : ℕ) : Type 0 where
+  pub streams : (out : List ℕ) → shortest ≤ length out → Streaming (call out) I
+  pub same : (out other : List ℕ) (s : S) (b : List ℕ) → shortest ≤ length out → shortest ≤ length other → I s → call out s b ≡ call other s b
+
+module _ {S E : Type 0} (call : List ℕ → S → List ℕ → Call S E) (I : S → Type 0) (shortest : ℕ) (laws : AnyOutput call I shortest) where
+  -- the calls without their count
+  abbrev uncounted : Served (Counted S) E → Served S E
+  uncounted r = record { given = r .given; state = r .state .state }
+
+  uncounted-then : (o : Option E) (c : Counted S) (r : Served (Counted S) E) → uncounted (andThen o c r) ≡ andThen o (c .state) (uncounted r)
+  uncounted-then none c r = refl
+  uncounted-then (some e) c r = refl
+
+  module _ (outs : ℕ → List ℕ) (room : (i : ℕ) → shortest ≤ length (outs i)) (out : List ℕ) (l : shortest ≤ length out) where
+    lent-keeps : (c : Counted S) (b : List ℕ) → I (c .state) → I (lent call outs c b .state .state)
+    lent-keeps c b i = laws .streams (outs (c .calls)) (room (c .calls)) .keeps (c .state) b i
+
+    same-on : (n : ℕ) (c : Counted S) (b : List ℕ) → I (c .state) → uncounted (callsOn (lent call outs) n c b) ≡ callsOn (call out) n (c .state) b
+    unfolding callsOn
+    same-on zero c b i = refl
+    same-on (suc n) c b i =
+        let t = lent call outs c b in
+        uncounted-then (t .gives) (t .state) (callsOn (lent call outs) n (t .state) (drop (t .taken) b))
+        ∙ ap (andThen (t .gives) (t .state .state)) (same-on n (t .state) (drop (t .taken) b) (lent-keeps c b i))
+        ∙ ap (λ (x : Call S E). andThen (x .gives) (x .state) (callsOn (call out) n (x .state) (drop (x .taken) b)))
+        (laws .same (outs (c .calls)) out (c .state) b (room (c .calls)) l i)
+
+    kept-on : (n : ℕ) (c : Counted S) (b : List ℕ) → I (c .state) → I (callsOn (lent call outs) n c b .state .state)
+    kept-on n c b i =
+        subst I (sym (ap (λ (r : Served S E). r .state) (same-on n c b i))) (keeps-calls (call out) I (laws .streams out l) n (c .state) b i)
+
+    same-served : (c : Counted S) (bs : List (List ℕ)) → I (c .state) → uncounted (served (lent call outs) c bs) ≡ served (call out) (c .state) bs
+    unfolding served servedOne
+    same-served c [] i = refl
+    same-served c (b ∷ bs) i =
+        let n = suc (length b) in
+        let x = callsOn (lent call outs) n c b in
+        ap (λ (y : Served S E). record { given = x .given ++ y .given; state = y .state }) (same-served (x .state) bs (kept-on n c b i))
+        ∙ ap (λ (y : Served S E). record { given = y .given ++ served (call out) (y .state) bs .given; state = served (call out) (y .state) bs .state })
+        (same-on n c b i)
+
+  -- However the byte stream was cut, and whatever outputs were lent, it is as if it came at once.
+  pub at-once : (out : List ℕ) → shortest ≤ length out → (s : S) (b : List ℕ) (w : Sending shortest b) → I s → sent call s w ≡ servedOne (call out) s b
+  at-once out l s b w i =
+      same-served (w .outs) (w .room) out l (record { calls = 0; state = s }) (w .pieces) i
+      ∙ in-pieces (call out) I (laws .streams out l) s (w .pieces) i
+      ∙ ap (servedOne (call out) s) (w .bytes)
+
+  -- so that every way of sending the same bytes gives the same
+  pub sent-same : (s : S) (b : List ℕ) (v w : Sending shortest b) → I s → sent call s v ≡ sent call s w
+  sent-same s b v w i = at-once (v .outs 0) (v .room 0) s b v i ∙ sym (at-once (v .outs 0) (v .room 0) s b w i)

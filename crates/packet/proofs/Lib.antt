@@ -1,6 +1,7 @@
 -- The laws of packet that the crates above cite.
 pub mod Cases
 pub mod Calls
+pub mod Answering
 pub mod Lending
 pub use Rattle.packet.proofs.bytes.Laws as BytesLaws
 pub use Rattle.packet.proofs.number.Laws as NumberLaws

@@ -1,5 +1,6 @@
 -- A stream handed over in pieces, call after call, "however the byte stream was cut": for any state, and whatever a complete packet gives.
-use Prim.Native.Nat.{ℕ, zero, suc}
+use Prim.Native.Nat.{ℕ, zero, suc, _+_, _≤_}
+use mathlib.Core.Path.{_≡_}
 use mathlib.Core.List.{List, [], _∷_, _++_}
 use mathlib.Core.Option.{Option, none, some}
 use lib.ListN.{length, drop}
@@ -42,3 +43,30 @@ served call s (b ∷ bs) =
 unfoldable pub joined : List (List ℕ) → List ℕ
 joined [] = []
 joined (b ∷ bs) = b ++ joined bs
+
+-- Calls that are lent an output, each one of its own.
+
+-- a state, and how many calls there were on it
+pub record Counted (S : Type 0) : Type 0 where
+  pub calls : ℕ
+  pub state : S
+
+abbrev pub counted : {S E : Type 0} → ℕ → Call S E → Call (Counted S) E
+counted n t = record { taken = t .taken; gives = t .gives; state = record { calls = n; state = t .state } }
+
+-- the next call: call number i is lent the output `outs i`
+abbrev pub lent : {S E : Type 0} → (List ℕ → S → List ℕ → Call S E) → (ℕ → List ℕ) → Counted S → List ℕ → Call (Counted S) E
+lent call outs c b = counted (c .calls + 1) (call (outs (c .calls)) (c .state) b)
+
+-- a way of sending the bytes b: cut into any pieces, with outputs that are not shorter than the shortest that will do, whatever stands in them
+pub record Sending (shortest : ℕ) (b : List ℕ) : Type 0 where
+  pub pieces : List (List ℕ)
+  pub bytes : joined pieces ≡ b
+  pub outs : ℕ → List ℕ
+  pub room : (i : ℕ) → shortest ≤ length (outs i)
+
+-- the bytes sent so, by a call that is lent its output first: what the packets gave, in order, and the state afterwards
+abbrev pub sent : {S E : Type 0} → (List ℕ → S → List ℕ → Call S E) → S → {shortest : ℕ} {b : List ℕ} → Sending shortest b → Served S E
+sent call s w =
+    let r = served (lent call (w .outs)) (record { calls = 0; state = s }) (w .pieces) in
+    record { given = r .given; state = r .state .state }

@@ -6,8 +6,8 @@ use mathlib.Core.List.{List, _∷_, _++_}
 use mathlib.Core.Option.{some}
 use native.Mathlib.Nat.{zero-add}
 use native.Mathlib.Omega.{arith}
-use lib.ListN.{length, take, drop, length-append, length-drop}
-use lib.Seq.{sets, sets-eq, getD-take, take-at, length-take-le, drop-at}
+use lib.ListN.{length, take, drop, length-append}
+use lib.Seq.{sets, getD-take, take-at, drop-at}
 use Rattle.packet.specs.Answer.{Answers}
 use Rattle.packet.specs.Calls.{Call, Served, andThen, callsOn, servedOne}
 use Rattle.packet.specs.Packet.{payloadLength, payload, rightSum}
@@ -19,7 +19,7 @@ use Rattle.packet.proofs.Calls.{same-calls}
 use Rattle.packet.proofs.StreamLaws.{IsPacket, payload-length, packets-cons, rest-cons, packets-none, rest-none, packet-induction}
 use Rattle.packet.proofs.ReceiverLaws.{Between, between-packet, one, first-of, too-few}
 use Rattle.command.specs.Table.{commandOf}
-use Rattle.command.specs.Transfer.{Transfer, Opened, held}
+use Rattle.command.specs.Transfer.{Transfer, held}
 use Rattle.command.specs.Faults.{Arrived, arrived, faults, anyFault}
 use Rattle.command.specs.Judgement.{judgeAs, judge}
 use Rattle.command.specs.Carry.{settingsAfter, transferAfter}
@@ -27,18 +27,16 @@ use Rattle.command.specs.Response.{response}
 use Rattle.command.specs.Player.{State, judged, next, responses, after}
 use Rattle.command.specs.Controller.{heldIn, stateOf, receiverIn}
 use Rattle.command.specs.Endpoint.{arrivedIn, judgedIn, responseIn, carriedOut, After, waiting, receiveCall}
-use Rattle.command.specs.Sending.{Ready, Sending, sentTo, Boundary}
+use Rattle.command.specs.Sending.{serves, Ready, Sending, sentTo, Boundary}
 use Rattle.command.specs.Demand2.{Follows}
 use Rattle.command.specs.declared.table.Found.{Found}
 use Rattle.command.specs.declared.table.Found.the-variants.{Known, Unknown}
 use Rattle.command.specs.declared.judgement.Judgement.{Judgement}
-use Rattle.command.specs.declared.judgement.Judgement.the-variants.{Error, Hold, Write, Read}
 use Rattle.command.specs.declared.controller.Controller.{Controller}
-use Rattle.command.proofs.table.Laws.{found}
-use Rattle.command.proofs.transfer.Laws.{fits-hold, held-is, held-length}
+use Rattle.command.proofs.transfer.Laws.{fits-hold, held-length}
 use Rattle.command.proofs.carry.Laws.{Bounded, bounded, stored-part, carried-transfer}
 use Rattle.command.proofs.controller.Laws.{rule-parts}
-use Rattle.command.proofs.endpoint.Laws.{servesWith, call-is, stays-in-rule, endpoint-streams, at-once}
+use Rattle.command.proofs.endpoint.Laws.{call-is, stays-in-rule, endpoint-streams, at-once}
 
 -- a packet with another payload
 abbrev withBody : Arrived → List ℕ → Arrived
@@ -146,7 +144,7 @@ between-of q = record { header = q .ready .header; received = q .received }
 module _ (out : List ℕ) (l : 64 ≤ length out) where
   -- the claim for one stream
   abbrev Claim : List ℕ → Type 0
-  Claim b = (c : Controller) → Boundary c → Follows c b (servedOne (servesWith out) c b)
+  Claim b = (c : Controller) → Boundary c → Follows c b (servedOne (serves out) c b)
 
   follows-none : (b : List ℕ) → hasPacket b ≡ false → Claim b
   unfolding servedOne callsOn responses after receiverWaiting
@@ -170,13 +168,13 @@ module _ (out : List ℕ) (l : 64 ≤ length out) where
       let d : Controller = receiveCall c (p ++ b) out .controller in
       let m : List ℕ = drawn c p in
       let n : length (p ++ b) ≡ length p + length b = length-append p b in
-      let e : servesWith out c (p ++ b) ≡ record { taken = length p; gives = some m; state = d } =
+      let e : serves out c (p ++ b) ≡ record { taken = length p; gives = some m; state = d } =
       rw (t .answer, t .output, take-at m (drop (length m) out) (length m) refl) in
-      let more : callsOn (servesWith out) (length (p ++ b)) d (drop (length p) (p ++ b)) ≡ servedOne (servesWith out) d b =
-      ap (callsOn (servesWith out) (length (p ++ b)) d) (drop-at p b (length p) refl)
-      ∙ same-calls (servesWith out) Ready (endpoint-streams out l) (length (p ++ b)) (suc (length b)) d b (t .ready) (omega (arith, i .least)) (omega arith) in
-      let f : servedOne (servesWith out) c (p ++ b) ≡ record { given = m ∷ servedOne (servesWith out) d b .given; state = servedOne (servesWith out) d b .state } =
-      ap (λ (x : Call Controller (List ℕ)). andThen (x .gives) (x .state) (callsOn (servesWith out) (length (p ++ b)) (x .state) (drop (x .taken) (p ++ b)))) e
+      let more : callsOn (serves out) (length (p ++ b)) d (drop (length p) (p ++ b)) ≡ servedOne (serves out) d b =
+      ap (callsOn (serves out) (length (p ++ b)) d) (drop-at p b (length p) refl)
+      ∙ same-calls (serves out) Ready (endpoint-streams out l) (length (p ++ b)) (suc (length b)) d b (t .ready) (omega (arith, i .least)) (omega arith) in
+      let f : servedOne (serves out) c (p ++ b) ≡ record { given = m ∷ servedOne (serves out) d b .given; state = servedOne (serves out) d b .state } =
+      ap (λ (x : Call Controller (List ℕ)). andThen (x .gives) (x .state) (callsOn (serves out) (length (p ++ b)) (x .state) (drop (x .taken) (p ++ b)))) e
       ∙ ap (λ (x : Served Controller (List ℕ)). andThen (some m) d x) more in
       let g = ih d (record { ready = t .ready; received = t .boundary .received }) in
       subst (Follows c (p ++ b)) (sym f)

@@ -1,43 +1,33 @@
 -- The receive call on a head that is in rule: it stays in rule, and cutting a stream changes nothing.
-use Prim.Native.Nat.{ℕ, zero, suc, _+_, _-_, _<_, _≤_, max}
+use Prim.Native.Nat.{ℕ, _+_, _-_, _<_, _≤_, max}
 use mathlib.Core.Path.{_≡_, refl, ap, sym, _∙_}
 use mathlib.Core.Bool.{Bool, true, false, cond}
 use mathlib.Core.List.{List, [], _∷_, _++_}
-use mathlib.Core.Option.{Option, none, some}
+use mathlib.Core.Option.{none, some}
 use native.Mathlib.Omega.{arith}
 use lib.ListN.{length, take, length-take, drop}
 use lib.Seq.{sets, length-sets, take-at}
-use borrow.Author.Tests.{lt-ltb, le-ltb, ltb-true, le-leb}
-use Rattle.packet.specs.Calls.{Call, Served, andThen, callsOn, servedOne, served}
+use borrow.Author.Tests.{lt-ltb, le-ltb, ltb-true}
+use Rattle.packet.specs.Calls.{servedOne}
 use Rattle.packet.specs.Packet.{payloadLength}
 use Rattle.packet.specs.Receiver.{Receiver, Received, with, missing, waiting as receiverWaiting, completed, packetInRule}
 use Rattle.packet.specs.Writer.{written}
 use Rattle.packet.proofs.Cases.{lt-cases}
-use Rattle.packet.proofs.Calls.{Streaming, shifted, in-pieces}
+use Rattle.packet.proofs.Calls.{Streaming, shifted, AnyOutput, at-once as sent-at-once}
 use Rattle.packet.proofs.ReceiverLaws.{with-nil, hold-length, missing-least, after, cut, behind, waits, completes}
-use Rattle.command.specs.Transfer.{Transfer, held}
-use Rattle.command.specs.Faults.{Arrived}
+use Rattle.command.specs.Transfer.{held}
 use Rattle.command.specs.Judgement.{judge}
 use Rattle.command.specs.Carry.{settingsAfter}
-use Rattle.command.specs.Controller.{heldIn, transferIn, receiverIn, transferStateAfter, bufferAfter, transferInRule}
+use Rattle.command.specs.Controller.{heldIn, transferIn, receiverIn}
 use Rattle.command.specs.Endpoint.{takenBy, arrivedIn, judgedIn, responseIn, registersOf, carriedOut, After, waiting, answered, receiveCall}
-use Rattle.command.specs.Sending.{shown, Head, serves, Sending, sentTo, Ready}
-use Rattle.command.specs.declared.table.Found.the-variants.{Known}
-use Rattle.command.specs.declared.transfer.TransferState.{TransferState}
-use Rattle.command.specs.declared.judgement.Judgement.{Judgement}
-use Rattle.command.specs.declared.judgement.Judgement.the-variants.{Error, Hold, Write, Read}
+use Rattle.command.specs.Sending.{shown, serves, Sending, sentTo, Ready}
 use Rattle.command.specs.declared.controller.Controller.{Controller}
-use Rattle.command.proofs.table.Laws.{found}
 use Rattle.command.proofs.rules.Laws.{kept-by, in-rule-of}
-use Rattle.command.proofs.transfer.Laws.{fits-hold, held-length}
-use Rattle.command.proofs.judgement.Laws.{judge-cases, sound}
+use Rattle.command.proofs.transfer.Laws.{held-length}
+use Rattle.command.proofs.judgement.Laws.{sound}
 use Rattle.command.proofs.carry.Laws.{Bounded, bounded, transfer-kept, buffer-kept}
 use Rattle.command.proofs.controller.Laws.{rule-parts, rule-whole}
 use Rattle.command.proofs.player.Laws.{kept-judgement}
-
--- the receive call with this output lent
-abbrev pub servesWith : List ℕ → Controller → List ℕ → Call Controller (List ℕ)
-servesWith out c b = shown (receiveCall c b out)
 
 -- a call that is not refused, by what the receiver took
 abbrev pub ends : Controller → List ℕ → Received → After
@@ -137,14 +127,14 @@ stays-in-rule c b out k l =
 
 -- The receive call over a stream.
 module _ (out : List ℕ) (l : 64 ≤ length out) where
-  none-waits : (c : Controller) (a : List ℕ) → Ready c → servesWith out c a .gives ≡ none → length a < missing (receiverIn c) a
+  none-waits : (c : Controller) (a : List ℕ) → Ready c → serves out c a .gives ≡ none → length a < missing (receiverIn c) a
   none-waits c a k g =
       lt-cases (length a) (missing (receiverIn c) a) (λ h. h)
       (λ h.
       let e = sym (ap (λ (r : After). shown r .gives) (call-answers c a out k l h)) ∙ g in
       let z : _≡_ {A = ℕ} 0 1 = cc in absurd (omega arith))
 
-  some-answers : (c : Controller) (a e : List ℕ) → Ready c → servesWith out c a .gives ≡ some e → missing (receiverIn c) a ≤ length a
+  some-answers : (c : Controller) (a e : List ℕ) → Ready c → serves out c a .gives ≡ some e → missing (receiverIn c) a ≤ length a
   some-answers c a e k g =
       lt-cases (length a) (missing (receiverIn c) a)
       (λ h.
@@ -160,21 +150,21 @@ module _ (out : List ℕ) (l : 64 ≤ length out) where
   shown-after c a n t false = refl
 
   cut-call : (c : Controller) (a b : List ℕ) → Ready c → length a < missing (receiverIn c) a
-      → servesWith out c (a ++ b) ≡ shifted (length a) (servesWith out (receivedBy c (with 0 (receiverIn c) a)) b)
+      → serves out c (a ++ b) ≡ shifted (length a) (serves out (receivedBy c (with 0 (receiverIn c) a)) b)
   cut-call c a b k h =
       let d = receivedBy c (with 0 (receiverIn c) a) in
       ap shown (call-is c (a ++ b) out k l (cut 0 (receiverIn c) a b (k .header) h))
       ∙ shown-after c a (length a) (takenBy d b) (takenBy d b .complete)
       ∙ ap (λ (r : After). shifted (length a) (shown r)) (sym (call-is d b out (ready-waiting c a k h) l refl))
 
-  behind-call : (c : Controller) (a b : List ℕ) → Ready c → missing (receiverIn c) a ≤ length a → servesWith out c (a ++ b) ≡ servesWith out c a
+  behind-call : (c : Controller) (a b : List ℕ) → Ready c → missing (receiverIn c) a ≤ length a → serves out c (a ++ b) ≡ serves out c a
   behind-call c a b k h = ap shown (call-is c (a ++ b) out k l (behind 0 (receiverIn c) a b (k .header) h) ∙ sym (call-is c a out k l refl))
 
-  count-answers : (c : Controller) (a : List ℕ) → Ready c → missing (receiverIn c) a ≤ length a → servesWith out c a .taken ≡ missing (receiverIn c) a
+  count-answers : (c : Controller) (a : List ℕ) → Ready c → missing (receiverIn c) a ≤ length a → serves out c a .taken ≡ missing (receiverIn c) a
   unfolding completed
   count-answers c a k h = ap (λ (r : After). shown r .taken) (call-answers c a out k l h)
 
-  pub endpoint-streams : Streaming (servesWith out) Ready
+  pub endpoint-streams : Streaming (serves out) Ready
   unfolding receiverWaiting
   endpoint-streams =
       record {
@@ -184,7 +174,7 @@ module _ (out : List ℕ) (l : 64 ≤ length out) where
             ∙ ap (λ (r : Receiver). record { taken = 0; gives = none; state = receivedBy c r }) (with-nil 0 (receiverIn c));
         cut = λ c a b k g.
             let h = none-waits c a k g in
-            cut-call c a b k h ∙ ap (λ (d : Controller). shifted (length a) (servesWith out d b)) (sym (ap (λ (r : After). r .controller) (call-waits c a out k l h)));
+            cut-call c a b k h ∙ ap (λ (d : Controller). shifted (length a) (serves out d b)) (sym (ap (λ (r : After). r .controller) (call-waits c a out k l h)));
         behind = λ c a b e k g. behind-call c a b k (some-answers c a e k g);
         least = λ c a e k g. omega (arith, missing-least (receiverIn c) a, count-answers c a k (some-answers c a e k g));
         most = λ c a e k g. omega (arith, some-answers c a e k g, count-answers c a k (some-answers c a e k g));
@@ -202,58 +192,13 @@ same-ends c t out other = go (t .complete)
         rw (take-at m (drop (length m) out) (length m) refl, take-at m (drop (length m) other) (length m) refl)
     go false = refl
 
-module _ (outs : ℕ → List ℕ) (room : (i : ℕ) → 64 ≤ length (outs i)) (out : List ℕ) (l : 64 ≤ length out) where
-  same-call : (h : Head) (b : List ℕ) → Ready (h .controller) → shown (receiveCall (h .controller) b (outs (h .calls))) ≡ servesWith out (h .controller) b
-  same-call h b k =
-      let c = h .controller in
-      let o = outs (h .calls) in
-      ap shown (call-is c b o k (room (h .calls)) refl) ∙ same-ends c (takenBy c b) o out ∙ sym (ap shown (call-is c b out k l refl))
-
-  -- the calls without their count
-  abbrev forget : Served Head (List ℕ) → Served Controller (List ℕ)
-  forget r = record { given = r .given; state = r .state .controller }
-
-  forget-then : (o : Option (List ℕ)) (h : Head) (r : Served Head (List ℕ)) → forget (andThen o h r) ≡ andThen o (h .controller) (forget r)
-  forget-then none h r = refl
-  forget-then (some e) h r = refl
-
-  same-on : (n : ℕ) (h : Head) (b : List ℕ) → Ready (h .controller) → forget (callsOn (serves outs) n h b) ≡ callsOn (servesWith out) n (h .controller) b
-  unfolding callsOn
-  same-on zero h b k = refl
-  same-on (suc n) h b k =
-      let t = serves outs h b in
-      let d = receiveCall (h .controller) b (outs (h .calls)) .controller in
-      let more = callsOn (serves outs) n (t .state) (drop (t .taken) b) in
-      forget-then (t .gives) (t .state) more
-      ∙ ap (andThen (t .gives) d) (same-on n (t .state) (drop (t .taken) b) (stays-in-rule (h .controller) b (outs (h .calls)) k (room (h .calls))))
-      ∙ ap (λ (x : Call Controller (List ℕ)). andThen (x .gives) (x .state) (callsOn (servesWith out) n (x .state) (drop (x .taken) b))) (same-call h b k)
-
-  ready-on : (n : ℕ) (h : Head) (b : List ℕ) → Ready (h .controller) → Ready (callsOn (serves outs) n h b .state .controller)
-  unfolding callsOn
-  ready-on zero h b k = k
-  ready-on (suc n) h b k =
-      let t = serves outs h b in
-      let d = stays-in-rule (h .controller) b (outs (h .calls)) k (room (h .calls)) in
-      go (t .gives) (t .state) (callsOn (serves outs) n (t .state) (drop (t .taken) b)) d (ready-on n (t .state) (drop (t .taken) b) d)
-    where
-      go : (o : Option (List ℕ)) (h : Head) (r : Served Head (List ℕ)) → Ready (h .controller) → Ready (r .state .controller) → Ready (andThen o h r .state .controller)
-      go none h r i j = i
-      go (some e) h r i j = j
-
-  -- so that the calls are those with one output
-  same-served : (h : Head) (bs : List (List ℕ)) → Ready (h .controller) → forget (served (serves outs) h bs) ≡ served (servesWith out) (h .controller) bs
-  unfolding served servedOne
-  same-served h [] k = refl
-  same-served h (b ∷ bs) k =
-      let n = suc (length b) in
-      let x = callsOn (serves outs) n h b in
-      ap (λ (y : Served Controller (List ℕ)). record { given = x .given ++ y .given; state = y .state }) (same-served (x .state) bs (ready-on n h b k))
-      ∙ ap (λ (y : Served Controller (List ℕ)).
-      record { given = y .given ++ served (servesWith out) (y .state) bs .given; state = served (servesWith out) (y .state) bs .state }) (same-on n h b k)
+any-output : AnyOutput serves Ready 64
+any-output =
+    record {
+      streams = endpoint-streams;
+      same = λ out other c b l m k. ap shown (call-is c b out k l refl) ∙ same-ends c (takenBy c b) out other ∙ sym (ap shown (call-is c b other k m refl));
+    }
 
 -- However the byte stream was cut, it is as if it came at once.
-pub at-once : (out : List ℕ) → 64 ≤ length out → (c : Controller) (b : List ℕ) (s : Sending b) → Ready c → sentTo c s ≡ servedOne (servesWith out) c b
-at-once out l c b s k =
-    same-served (s .outs) (s .room) out l (record { calls = 0; controller = c }) (s .pieces) k
-    ∙ in-pieces (servesWith out) Ready (endpoint-streams out l) c (s .pieces) k
-    ∙ ap (servedOne (servesWith out) c) (s .bytes)
+pub at-once : (out : List ℕ) → 64 ≤ length out → (c : Controller) (b : List ℕ) (s : Sending b) → Ready c → sentTo c s ≡ servedOne (serves out) c b
+at-once = sent-at-once serves Ready 64 any-output

@@ -10,25 +10,28 @@ use borrow.Author.Tests.{ltb-false}
 use lib.ListN.{length, take, drop, length-append, length-drop}
 use lib.Seq.{sets, getD-take, take-at, drop-at, length-take-le}
 use Rattle.packet.specs.Packet.{payloadLength, payload, checksum as packetChecksum}
-use Rattle.packet.specs.Stream.{size, hasPacket, packets, rest}
-use Rattle.packet.specs.Calls.{Served, andThen, callsOn, servedOne, served, joined}
+use Rattle.packet.specs.Stream.{size, hasPacket, packets}
+use Rattle.packet.specs.Calls.{Served, andThen, callsOn, servedOne}
 use Rattle.packet.proofs.Cases.{bool-cases}
 use Rattle.packet.proofs.BytesLaws.{sets-whole}
 use Rattle.packet.proofs.StreamLaws.{IsPacket, packets-cons, rest-cons, packets-none, rest-none, packet-induction}
-use Rattle.packet.proofs.Calls.{same-calls}
+use Rattle.packet.proofs.Calls.{same-calls, at-once}
 use Rattle.packet.specs.Writer.{written}
 use Rattle.packet.specs.Receiver.{Receiver as PacketReceiver, Received, with, waiting as packetWaiting}
 use Rattle.packet.proofs.ReceiverLaws.{Between, afterPacket, rightFrom, one, first-of, too-few}
 use Rattle.dlpc200.specs.Packet.{afterCmd4, checksum, rightSum}
 use Rattle.dlpc200.specs.Receiver.{framedBy, receiverOf}
-use Rattle.dlpc200.specs.Judgement.{commandIn, arrivedBy, arrived, judge, statesAfter}
+use Rattle.dlpc200.specs.Inner.{arrivedBy}
+use Rattle.dlpc200.specs.Judgement.{commandIn, arrived, judge, statesAfter}
 use Rattle.dlpc200.specs.Response.{response}
 use Rattle.dlpc200.specs.declared.states.States.{States}
 use Rattle.dlpc200.specs.Playing.{judged, answerTo, next, responses, after}
 use Rattle.packet.specs.Answer.{Waits}
-use Rattle.dlpc200.specs.Endpoint.{arrivedIn, judgedIn, responseIn, After, answered, ended, receiveCall, shown, serves, Boundary}
+use Rattle.dlpc200.specs.Endpoint.{arrivedIn, judgedIn, responseIn, After, answered, ended, receiveCall}
+use Rattle.dlpc200.specs.Sending.{shown, serves, Sending, sentTo, Ready, Boundary}
+use Rattle.dlpc200.specs.Request1.{Follows}
 use Rattle.dlpc200.specs.declared.device.Device.{Device}
-use Rattle.dlpc200.proofs.endpoint.Laws.{Made, Ready, deviceAfter, not-refused, stays-in-rule, endpoint-streams, cut-anywhere}
+use Rattle.dlpc200.proofs.endpoint.Laws.{Made, made, deviceAfter, not-refused, stays-in-rule, endpoint-streams, any-output}
 
 -- The packet that the receiver has received is the packet of its bytes.
 module _ (p : List ℕ) (i : IsPacket p) (id : List ℕ) (m : length id ≡ 2) where
@@ -61,10 +64,14 @@ same-right : (p : List ℕ) → rightFrom afterCmd4 p ≡ rightSum p
 unfolding rightSum checksum packetChecksum
 same-right p = refl
 
+-- the packet complete in a receiver is that of the header and the ID that it holds
+arrived-in : (t : Received) → arrivedIn t ≡ arrivedBy (t .receiver .header) (t .receiver .hold) (t .right)
+arrived-in t = refl
+
 -- so it is judged as that, and draws what that draws
 module _ (s : States) (q : PacketReceiver) (m : Made q) (p : List ℕ) (i : IsPacket p) where
   same-packet : arrivedIn (one afterCmd4 q p) ≡ arrived p
-  same-packet = ap (arrivedBy (take 6 p) (sets (q .hold) 0 (payload p))) (same-right p) ∙ same-arrived p i (q .hold) (m .id)
+  same-packet = arrived-in (one afterCmd4 q p) ∙ ap (arrivedBy (take 6 p) (sets (q .hold) 0 (payload p))) (same-right p) ∙ same-arrived p i (q .hold) (m .id)
 
   same-judged : judgedIn (one afterCmd4 q p) ≡ judged p
   unfolding judgedIn judged
@@ -78,30 +85,19 @@ module _ (s : States) (q : PacketReceiver) (m : Made q) (p : List ℕ) (i : IsPa
   unfolding next
   same-states = ap (statesAfter s) same-judged
 
--- What the calls on a stream answered and left: the responses in order, the states, and the receiver, which has what is left of the stream.
-pub record Follows (d : Device) (b : List ℕ) (r : Served Device (List ℕ)) : Type 0 where
-  pub given : r .given ≡ responses (d .states) (packets b)
-  pub ends : r .state .states ≡ after (d .states) (packets b)
-  pub base : PacketReceiver
-  pub boundary : Between base
-  pub left : framedBy (r .state .receiver) ≡ with afterCmd4 base (rest b)
-
--- a device between two packets is ready, and its receiver is between them
-ready : (d : Device) → Boundary d → Ready d
-ready d z = record { rule = z .rule; made = record { header = z .header; id = z .id } }
-
+-- the receiver of a device between two packets is between them
 between : (d : Device) → Boundary d → Between (framedBy (d .receiver))
-between d z = record { header = z .header; received = z .received }
+between d z = record { header = z .ready .header; received = z .received }
 
 module _ (out : List ℕ) (l : 64 ≤ length out) where
-  -- the claim of `follows` for one stream
+  -- the claim for one stream at once
   abbrev Claim : List ℕ → Type 0
   Claim b = (d : Device) → Boundary d → Follows d b (servedOne (serves out) d b)
 
   follows-none : (b : List ℕ) → hasPacket b ≡ false → Claim b
   unfolding servedOne callsOn responses after packetWaiting
   follows-none b h d z =
-      let k = ready d z in
+      let k = z .ready in
       let q = between d z in
       let e : receiveCall d b out ≡ record { answer = Waits (length b); device = deviceAfter d b; output = out } =
       not-refused d b out (k .rule) l ∙ ap (λ (t : Received). ended (d .states) t out) (too-few afterCmd4 (framedBy (d .receiver)) q b h) in
@@ -112,15 +108,16 @@ module _ (out : List ℕ) (l : 64 ≤ length out) where
         given = sym (ap (responses (d .states)) (packets-none b h));
         ends = sym (ap (after (d .states)) (packets-none b h));
         base = framedBy (d .receiver);
-        boundary = q;
-        left = ap (with afterCmd4 (framedBy (d .receiver))) (sym (rest-none b h));
+        boundary = z .received;
+        unfinished = ap (with afterCmd4 (framedBy (d .receiver))) (sym (rest-none b h));
+        ready = subst (λ (r : After). Ready (r .device)) e (stays-in-rule d b out k l);
       })
 
   -- one packet more
   follows-more : (p b : List ℕ) → IsPacket p → Claim b → Claim (p ++ b)
   unfolding servedOne callsOn responses after written
   follows-more p b i ih d z =
-      let k = ready d z in
+      let k = z .ready in
       let q = between d z in
       let t : Received = one afterCmd4 (framedBy (d .receiver)) p in
       let x : Device = record { states = statesAfter (d .states) (judgedIn (one afterCmd4 (framedBy (d .receiver)) p)); receiver = receiverOf (afterPacket (framedBy (d .receiver)) p) } in
@@ -137,24 +134,25 @@ module _ (out : List ℕ) (l : 64 ≤ length out) where
       ap (λ (r : After). andThen (shown r .gives) (shown r .state) (callsOn (serves out) (length (p ++ b)) (shown r .state) (drop (shown r .taken) (p ++ b)))) e
       ∙ ap (λ (y : List ℕ). andThen (some y) x (callsOn (serves out) (length (p ++ b)) x (drop (length p) (p ++ b)))) (take-at m (drop (length m) out) (length m) refl)
       ∙ ap (λ (y : Served Device (List ℕ)). andThen (some m) x y) rest-calls in
-      let g = ih x (record { rule = kx .rule; received = refl; header = kx .made .header; id = kx .made .id }) in
-      let s : x .states ≡ next (d .states) p = same-states (d .states) (framedBy (d .receiver)) (k .made) p i in
+      let g = ih x (record { ready = kx; received = refl }) in
+      let s : x .states ≡ next (d .states) p = same-states (d .states) (framedBy (d .receiver)) (made d k) p i in
       subst (Follows d (p ++ b)) (sym f)
       (record {
         given =
-            ap₂ {C = List (List ℕ)} (λ y ys. y ∷ ys) (same-response (d .states) (framedBy (d .receiver)) (k .made) p i) (g .given ∙ ap (λ (a : States). responses a (packets b)) s)
+            ap₂ {C = List (List ℕ)} (λ y ys. y ∷ ys) (same-response (d .states) (framedBy (d .receiver)) (made d k) p i) (g .given ∙ ap (λ (a : States). responses a (packets b)) s)
             ∙ sym (ap (responses (d .states)) (packets-cons p b i));
         ends = g .ends ∙ ap (λ (a : States). after a (packets b)) s ∙ sym (ap (after (d .states)) (packets-cons p b i));
         base = g .base;
         boundary = g .boundary;
-        left = g .left ∙ ap (with afterCmd4 (g .base)) (sym (rest-cons p b i));
+        unfinished = g .unfinished ∙ ap (with afterCmd4 (g .base)) (sym (rest-cons p b i));
+        ready = g .ready;
       })
 
-  -- Over whole streams: on every device in rule with nothing half received, whatever its sum, the responses in order, the states and the unfinished packet
-  -- are those of judging the stream's packets one after the other.
-  pub follows : (b : List ℕ) → Claim b
+  follows : (b : List ℕ) → Claim b
   follows = packet-induction Claim follows-none follows-more
 
-  -- And so however the stream was cut.
-  pub follows-pieces : (bs : List (List ℕ)) (d : Device) → Boundary d → Follows d (joined bs) (served (serves out) d bs)
-  follows-pieces bs d z = subst (Follows d (joined bs)) (sym (cut-anywhere out l d bs (ready d z))) (follows (joined bs) d z)
+-- Over whole streams, however they are sent: the responses in order, the states and the unfinished packet are those of judging the stream's packets one after the
+-- other.
+pub follows-sent : (d : Device) (b : List ℕ) (s : Sending b) → Boundary d → Follows d b (sentTo d s)
+follows-sent d b s z =
+    subst (Follows d b) (sym (at-once serves Ready 64 any-output (s .outs 0) (s .room 0) d b s (z .ready))) (follows (s .outs 0) (s .room 0) b d z)

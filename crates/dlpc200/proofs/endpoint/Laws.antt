@@ -1,4 +1,4 @@
--- The receive call: when it refuses; that a device in rule stays in rule; and that cutting a stream changes nothing.
+-- The receive call: that a device in rule stays in rule, and that neither cutting a stream nor the outputs lent change anything.
 use Prim.Native.Nat.{ℕ, _+_, _-_, _<_, _≤_}
 use mathlib.Core.Path.{_≡_, refl, ap, sym, subst, _∙_}
 use mathlib.Core.Bool.{Bool, true, false, cond}
@@ -7,33 +7,25 @@ use mathlib.Core.Option.{none, some}
 use native.Mathlib.Omega.{arith}
 use lib.Dec.{ltb}
 use borrow.Author.Tests.{lt-ltb, le-ltb, ltb-true}
-use lib.ListN.{length, take}
-use lib.Seq.{sets, length-sets, length-take-le}
+use lib.ListN.{length, take, drop}
+use lib.Seq.{sets, length-sets, length-take-le, take-at}
 use Rattle.packet.specs.Packet.{payloadLength}
 use Rattle.packet.specs.Receiver.{Receiver as PacketReceiver, Received, runningWith, with, missing, waiting as packetWaiting, completed, receiving as packetReceiving, packetInRule}
-use Rattle.packet.specs.Calls.{servedOne, served, joined}
+use Rattle.packet.specs.Writer.{written}
 use Rattle.packet.proofs.Cases.{lt-cases, and-left, and-right, and-both}
 use Rattle.packet.proofs.ReceiverLaws.{running-anew, with-nil, hold-length, missing-least, after, cut, behind, waits, completes}
-use Rattle.packet.proofs.Calls.{Streaming, shifted, in-pieces}
+use Rattle.packet.proofs.Calls.{Streaming, shifted, AnyOutput}
 use Rattle.dlpc200.specs.Packet.{afterCmd4}
 use Rattle.dlpc200.specs.Receiver.{framedBy, receiverOf, receiving}
 use Rattle.dlpc200.specs.States.{inRange}
 use Rattle.dlpc200.specs.declared.states.States.{States}
 use Rattle.dlpc200.proofs.judgement.Laws.{in-range-kept}
 use Rattle.packet.specs.Answer.{Waits}
-use Rattle.dlpc200.specs.Endpoint.{judgedIn, responseIn, After, refused, waiting, answered, ended, receiveCall, shown, serves, withSum, SumBegins}
+use Rattle.dlpc200.specs.Endpoint.{judgedIn, responseIn, After, waiting, answered, ended, receiveCall}
+use Rattle.dlpc200.specs.Sending.{shown, serves, Ready}
+use Rattle.dlpc200.specs.Request1.{withSum}
 use Rattle.dlpc200.specs.Device.{inRule}
 use Rattle.dlpc200.specs.declared.device.Device.{Device}
-
--- A refusal takes nothing, and leaves device and output: 1, whatever the device,
-pub short-output : (d : Device) (b out : List ℕ) → length out < 64 → receiveCall d b out ≡ refused 1 d out
-unfolding receiveCall
-short-output d b out h = rw (lt-ltb (length out) 64 h)
-
--- then 3.
-pub out-of-rule : (d : Device) (b out : List ℕ) → 64 ≤ length out → inRule d ≡ false → receiveCall d b out ≡ refused 3 d out
-unfolding receiveCall
-out-of-rule d b out h r = rw (le-ltb (length out) 64 h, r)
 
 -- a receiver as the code has it: its header has six bytes, and its ID two
 pub record Made (q : PacketReceiver) : Type 0 where
@@ -44,10 +36,8 @@ made-with : (q : PacketReceiver) (b : List ℕ) → Made q → Made (with afterC
 unfolding with
 made-with q b m = record { header = length-sets (q .header) (q .received) b ∙ m .header; id = hold-length afterCmd4 q b ∙ m .id }
 
--- a device in rule, as the code has it
-pub record Ready (d : Device) : Type 0 where
-  pub rule : inRule d ≡ true
-  pub made : Made (framedBy (d .receiver))
+pub made : (d : Device) → Ready d → Made (framedBy (d .receiver))
+made d k = record { header = k .header; id = k .id }
 
 -- the two parts of the rule
 range-of : (d : Device) → inRule d ≡ true → inRange (d .states) ≡ true
@@ -95,9 +85,11 @@ few d (x ∷ b) r h = omega (arith, unfinished d r)
 
 ready-waiting : (d : Device) (b : List ℕ) → Ready d → length b < missing (framedBy (d .receiver)) b → Ready (deviceAfter d b)
 ready-waiting d b k h =
+    let m = made-with (framedBy (d .receiver)) b (made d k) in
     record {
       rule = rule-by (deviceAfter d b) (range-of d (k .rule)) (unfold with in few d b (k .rule) h);
-      made = made-with (framedBy (d .receiver)) b (k .made);
+      header = m .header;
+      id = m .id;
     }
 
 -- a complete packet leaves the device in rule
@@ -105,9 +97,11 @@ ready-answered : (d : Device) (b out : List ℕ) (n : ℕ) → Ready d → Ready
 unfolding completed
 ready-answered d b out n k =
     let t : Received = completed afterCmd4 (framedBy (d .receiver)) b n in
+    let m = made-with (framedBy (d .receiver)) (take (n - 1) b) (made d k) in
     record {
       rule = rule-by (answered (d .states) t out .device) (in-range-kept (d .states) (judgedIn t) (range-of d (k .rule))) (omega arith);
-      made = let m = made-with (framedBy (d .receiver)) (take (n - 1) b) (k .made) in record { header = m .header; id = m .id };
+      header = m .header;
+      id = m .id;
     }
 
 -- In rule stays in rule, whatever bytes come.
@@ -158,7 +152,8 @@ module _ (q : PacketReceiver) (n : ℕ) (l : q .received ≤ afterCmd4) where
       ∙ completed-anew b h
       ∙ sym (completes afterCmd4 q b h))
 
-pub sum-begins : SumBegins
+pub sum-begins : (d : Device) (n : ℕ) (b out : List ℕ) → 64 ≤ length out → inRule d ≡ true → d .receiver .received ≤ afterCmd4
+    → afterCmd4 < d .receiver .received + length b → receiveCall (withSum d n) b out ≡ receiveCall d b out
 sum-begins d n b out l r h m =
     not-refused (withSum d n) b out r l
     ∙ ap (λ (t : Received). ended (d .states) t out) (receiving-anew (framedBy (d .receiver)) n h b m)
@@ -193,14 +188,14 @@ module _ (out : List ℕ) (l : 64 ≤ length out) where
   cut-call d a b k h =
       let t : Received = receiving (deviceAfter d a .receiver) b in
       ap shown (not-refused d (a ++ b) out (k .rule) l)
-      ∙ ap (λ (t : Received). shown (ended (d .states) t out)) (cut afterCmd4 (framedBy (d .receiver)) a b (k .made .header) h)
+      ∙ ap (λ (t : Received). shown (ended (d .states) t out)) (cut afterCmd4 (framedBy (d .receiver)) a b (k .header) h)
       ∙ shown-by (d .states) (length a) t (t .complete)
       ∙ ap (λ (r : After). shifted (length a) (shown r)) (sym (not-refused (deviceAfter d a) b out (ready-waiting d a k h .rule) l))
 
   behind-call : (d : Device) (a b : List ℕ) → Ready d → missing (framedBy (d .receiver)) a ≤ length a → serves out d (a ++ b) ≡ serves out d a
   behind-call d a b k h =
       ap shown (not-refused d (a ++ b) out (k .rule) l)
-      ∙ ap (λ (t : Received). shown (ended (d .states) t out)) (behind afterCmd4 (framedBy (d .receiver)) a b (k .made .header) h)
+      ∙ ap (λ (t : Received). shown (ended (d .states) t out)) (behind afterCmd4 (framedBy (d .receiver)) a b (k .header) h)
       ∙ sym (ap shown (not-refused d a out (k .rule) l))
 
   no-bytes : (d : Device) → Ready d → serves out d [] ≡ record { taken = 0; gives = none; state = d }
@@ -225,6 +220,24 @@ module _ (out : List ℕ) (l : 64 ≤ length out) where
         most = λ d a e k g. omega (arith, some-answers d a e k g, count-answers d a k (some-answers d a e k g));
       }
 
-  -- Cutting the stream changes nothing: the responses in order and the device at the end are those of the joined bytes.
-  pub cut-anywhere : (d : Device) (bs : List (List ℕ)) → Ready d → served (serves out) d bs ≡ servedOne (serves out) d (joined bs)
-  cut-anywhere d bs k = in-pieces (serves out) Ready endpoint-streams d bs k
+-- What a call shows does not depend on what its output holds.
+
+same-ended : (s : States) (t : Received) (out other : List ℕ) → shown (ended s t out) ≡ shown (ended s t other)
+same-ended s t out other = go (t .complete)
+  where
+    go : (b : Bool) → shown (cond b (answered s t out) (waiting s t out)) ≡ shown (cond b (answered s t other) (waiting s t other))
+    go true =
+        unfold written in
+        let m = responseIn s t in
+        rw (take-at m (drop (length m) out) (length m) refl, take-at m (drop (length m) other) (length m) refl)
+    go false = refl
+
+pub any-output : AnyOutput serves Ready 64
+any-output =
+    record {
+      streams = endpoint-streams;
+      same = λ out other d b l m k.
+          ap shown (not-refused d b out (k .rule) l)
+          ∙ same-ended (d .states) (receiving (d .receiver) b) out other
+          ∙ sym (ap shown (not-refused d b other (k .rule) m));
+    }
