@@ -10,7 +10,8 @@ use lib.ListN.{length}
 use borrow.Author.Tests.{le-ltb, lt-leb, leb-false, ltb-true, ltb-false, ne-eqb, eqb-true, eqb-false, not-true, not-false}
 use Rattle.packet.specs.Packet.{payloadLength}
 use Rattle.packet.specs.Answer.{Refuses, Waits, Answers, Answering}
-use Rattle.packet.specs.Receiver.{Received, missing, waiting as receiverWaiting, completed, receiving, packetInRule}
+use Rattle.packet.specs.Receiver.{packetInRule}
+use Rattle.packet.proofs.Answering.{answering, refusal-number, answers-not-refused, waits-not-refused, all-taken}
 use Rattle.packet.proofs.Cases.{bool-cases, cond-cases, and-left, and-right, or-left, or-right}
 use Rattle.command.specs.Table.{table, commandOf, isKnown}
 use Rattle.command.specs.Settings.{valuesOf}
@@ -27,41 +28,6 @@ use Rattle.command.specs.declared.value.Value.{Value}
 use Rattle.command.specs.declared.controller.Controller.{Controller}
 use Rattle.command.proofs.rules.Laws.{kept-by}
 use Rattle.command.proofs.faults.Laws.{and-cases, never, named, unnamed}
-
--- A call answers `short` where the output is too short, else `good` or, where its second test fails, `bad`.
-module _ {A : Type 0} (Refused : A → ℕ → Type 0) (Untouched Answered : A → Type 0) (short bad good : A) (out : List ℕ) (shortest second : ℕ) {Holds : Type 0}
-    (one : (n : ℕ) → Refused short n ↔ (n ≡ 1)) (two : (n : ℕ) → Refused bad n ↔ (n ≡ second)) (none : (n : ℕ) → Refused good n → ⊥)
-    (apart : second ≡ 1 → ⊥) (same-short : Untouched short) (same-bad : Untouched bad) (fine : Answered good) where
-  answering : (ok : Bool) → ((ok ≡ false) ↔ Holds)
-      → let x = cond (ltb (length out) shortest) short (cond ok good bad) in Answering (Refused x) out shortest second Holds (Untouched x) (Answered x)
-  answering ok holds = go (ltb (length out) shortest) refl ok refl
-    where
-      go : (b : Bool) → ltb (length out) shortest ≡ b → (v : Bool) → ok ≡ v
-          → let x = cond b short (cond v good bad) in Answering (Refused x) out shortest second Holds (Untouched x) (Answered x)
-      go true e v f =
-          record {
-            short = (λ _. ltb-true (length out) shortest e, λ _. one 1 .1 refl);
-            other = (λ h. absurd (apart (one second .0 h)), λ h. absurd (omega (arith, ltb-true (length out) shortest e, h .0)));
-            only = λ n h. inl (one n .0 h);
-            untouched = λ _ _. same-short;
-            answers = λ h _. absurd (omega (arith, ltb-true (length out) shortest e));
-          }
-      go false e true f =
-          record {
-            short = (λ h. absurd (none 1 h), λ h. absurd (omega (arith, ltb-false (length out) shortest e)));
-            other = (λ h. absurd (none second h), λ h. never (sym (holds .1 (h .1)) ∙ f));
-            only = λ n h. absurd (none n h);
-            untouched = λ n h. absurd (none n h);
-            answers = λ _ _. fine;
-          }
-      go false e false f =
-          record {
-            short = (λ h. absurd (apart (sym (two 1 .0 h))), λ h. absurd (omega (arith, ltb-false (length out) shortest e)));
-            other = (λ h. (ltb-false (length out) shortest e, holds .0 f), λ _. two second .1 refl);
-            only = λ n h. inr (two n .0 h);
-            untouched = λ _ _. same-bad;
-            answers = λ _ h. absurd (h (holds .0 f));
-          }
 
 -- The tests of refusal 3 are document 01's line.
 one-not-allowed : (s : Settings) (cs : List Command) → allAllowed s cs ≡ false → SettingsOutOfRule s
@@ -116,11 +82,6 @@ controller-out c = (forth, back)
         unfold registersInRule packetInRule in rw (le-ltb (c .registers .received) (7 + payloadLength (c .registers .header)) h, and-false)
 
 -- The receive call.
-all-taken : (c : Controller) (input : List ℕ) → takenBy c input .complete ≡ false → takenBy c input .taken ≡ length input
-unfolding receiving receiverWaiting completed
-all-taken c input =
-    cond-cases (λ (x : Received). x .complete ≡ false → x .taken ≡ length input) (ltb (length input) (missing (receiverIn c) input)) (λ _ _. refl) (λ _ h. never (sym h))
-
 pub receive-refuses : (c : Controller) (input out : List ℕ)
     → let r = receiveCall c input out in
     let t = takenBy c input in
@@ -132,19 +93,10 @@ receive-refuses c input out =
     answering (λ (x : After) n. x .answer ≡ Refuses n) (λ x. (x .controller ≡ c) × (x .output ≡ out))
     (λ x. x .answer ≡ cond (t .complete) (Answers (t .taken) (length (responseIn c t))) (Waits (length input))) (refused 1 c out) (refused 3 c out)
     (cond (t .complete) (answered c t out) (waiting c t out)) out 64 3
-    (λ n. number 1 n) (λ n. number 3 n)
-    (λ n. cond-cases (λ (x : After). x .answer ≡ Refuses n → ⊥) (t .complete) (λ _ h. answers h) (λ _ h. waits h))
+    (refusal-number 1) (refusal-number 3)
+    (λ n. cond-cases (λ (x : After). x .answer ≡ Refuses n → ⊥) (t .complete) (λ _ h. answers-not-refused h) (λ _ h. waits-not-refused h))
     (λ h. omega arith) (refl, refl) (refl, refl)
-    (bool-cases (t .complete) (λ e. rw e) (λ e. rw (e, all-taken c input e))) (inRule c) (controller-out c)
-  where
-    number : (k n : ℕ) → (Refuses k ≡ Refuses n) ↔ (n ≡ k)
-    number k n = (λ h. cc, λ h. rw h)
-
-    answers : {k l n : ℕ} → Answers k l ≡ Refuses n → ⊥
-    answers h = let z : _≡_ {A = ℕ} 0 1 = cc in omega arith
-
-    waits : {k n : ℕ} → Waits k ≡ Refuses n → ⊥
-    waits h = let z : _≡_ {A = ℕ} 0 1 = cc in omega arith
+    (bool-cases (t .complete) (λ e. rw e) (λ e. rw (e, all-taken 0 (receiverIn c) input e))) (inRule c) (controller-out c)
 
 -- The encoder and the list.
 module _ (out : List ℕ) where
