@@ -28,7 +28,7 @@ use Rattle.dlpc200.specs.declared.states.States.{States}
 use Rattle.dlpc200.proofs.status.Laws.{faults-counted}
 
 -- what holds of each command of the table holds of all
-each : (P : Command → Type 0)
+pub each : (P : Command → Type 0)
     → P ParkDmd × P UnparkDmd × P GetDmdSoftwareParkState × P GetSeqRunState × P GetEepromFault × P GetInitFromParallelFlashFail × P GetOverallLedLampLitState
     → (c : Command)
     → P c
@@ -74,7 +74,7 @@ known-done : (f : Found) (c : Command) → judgeCommand f ≡ Done c → f ≡ K
 known-done Unknown c h = let z : _≡_ {A = ℕ} 0 1 = cc in absurd (omega arith)
 known-done (Known d) c h = cc
 
-done-faultless : (p : Arrived) (c : Command) → judge p ≡ Done c → (anyFault (faultsOf p) ≡ false) × (p .command ≡ Known c)
+pub done-faultless : (p : Arrived) (c : Command) → judge p ≡ Done c → (anyFault (faultsOf p) ≡ false) × (p .command ≡ Known c)
 unfolding judge
 done-faultless p c =
     cond-cases (λ j. j ≡ Done c → (anyFault (faultsOf p) ≡ false) × (p .command ≡ Known c)) (anyFault (faultsOf p))
