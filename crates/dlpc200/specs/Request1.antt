@@ -11,9 +11,11 @@ use Rattle.packet.specs.Calls.{Served}
 use Rattle.packet.specs.Packet.{payloadLength, payload}
 use Rattle.packet.specs.Receiver.{Receiver as PacketReceiver, with}
 use Rattle.packet.specs.Stream.{packets, rest}
-use Rattle.dlpc200.specs.Packet.{cmd1Of, cmd2Of, cmd4Of, idOf, write, read, readResp, extended, only, afterCmd4, checksum as checksumOf, packetOf}
+use Rattle.dlpc200.specs.Packet.{cmd1Of, cmd2Of, cmd4Of, idOf, write, read, readResp, extended, only, afterCmd4, checksum as checksumOf, rightSum, packetOf}
 use Rattle.dlpc200.specs.Table.{idFor, cmd1For, sizeFor}
+use Rattle.dlpc200.specs.States.{shownOf, dataOf}
 use Rattle.dlpc200.specs.Status.{anyFault, noFaults, data0, data1, faultBits, faultsHeld}
+use Rattle.dlpc200.specs.Judgement.{arrived}
 use Rattle.dlpc200.specs.Response.{responseType}
 use Rattle.dlpc200.specs.Playing.{judged, answerTo, next, responses, after}
 use Rattle.dlpc200.specs.Receiver.{framedBy, receiving}
@@ -70,6 +72,11 @@ pub data Fails (p : List ℕ) (f : Faults) : Type 0 where
   HasFault : anyFault f ≡ true → Fails p f
   UnknownCommand : ((c : Command) → Names p c → ⊥) → Fails p f
 
+-- packets that all fail
+abbrev pub AllFail : List (List ℕ) → Type 0
+AllFail [] = Unit {0}
+AllFail (p ∷ ps) = ((f : Faults) × (judged p ≡ Failed f)) × AllFail ps
+
 -- Park and unpark.
 
 -- no packet of these is a park or an unpark that is carried out
@@ -119,19 +126,29 @@ pub record Request1 : Type 0 where
   pub follows : (d : Device) (b : List ℕ) (s : Sending b) → Boundary d → Follows d b (sentTo d s)
   -- and every way of sending the same bytes to a device in rule, with half a packet received or none, gives the same
   pub cut : (d : Device) (b : List ℕ) (s t : Sending b) → Ready d → sentTo d s ≡ sentTo d t
-  -- a packet fails with all faults that hold of it, exactly when there is one or its command is unknown, and changes no state;
+  -- "CMD3 00 (not judged)": a packet with another is the same to the rules
+  pub cmd3 : (first second third other : ℕ) (q : List ℕ) → arrived (first ∷ second ∷ third ∷ q) ≡ arrived (first ∷ second ∷ other ∷ q)
+  -- a packet fails with all faults that hold of it, exactly when there is one or its command is unknown,
   pub failed : (p : List ℕ) (f : Faults) → (judged p ≡ Failed f) ↔ (FaultsHold p f × Fails p f)
-  pub leaves : (s : States) (p : List ℕ) (f : Faults) → judged p ≡ Failed f → next s p ≡ s
-  -- a command is carried out exactly when the packet names it and none holds
+  -- and its command is carried out exactly when the packet names it and no fault holds
   pub done : (p : List ℕ) (c : Command) → (judged p ≡ Done c) ↔ (Names p c × FaultsHold p noFaults)
+  -- a failed packet changes no state, and a stream of such packets none
+  pub leaves : (s : States) (p : List ℕ) (f : Faults) → judged p ≡ Failed f → next s p ≡ s
+  pub badStream : (d : Device) (b : List ℕ) (s : Sending b) → Boundary d → AllFail (packets b) → sentTo d s .state .states ≡ d .states
   -- "A failed packet sets the bits of all that hold and bit 6 of Data[0] too"; "its response has the two status bytes only, as a read response for CMD1 04 and a write
   -- response otherwise";
   pub status : (s : States) (p : List ℕ) (f : Faults) → judged p ≡ Failed f
       → answerTo s p ≡ packetOf (responseType (cmd1Of p)) (data0 f ∷ data1 f ∷ [])
   -- "an unknown command by itself sets bit 6 alone"
-  pub alone : (data0 noFaults ≡ 0x40) × (data1 noFaults ≡ 0x00)
+  pub alone : (s : States) (p : List ℕ) → ((c : Command) → Names p c → ⊥) → FaultsHold p noFaults
+      → answerTo s p ≡ packetOf (responseType (cmd1Of p)) (0x40 ∷ 0x00 ∷ [])
+  -- a command that is carried out is answered as in its section: no error bit, and after the status bytes the state that it reads
+  pub answers : (s : States) (p : List ℕ) (c : Command) → judged p ≡ Done c
+      → answerTo s p ≡ packetOf (responseType (cmd1For c)) (0x00 ∷ 0x00 ∷ dataOf (shownOf s c))
   -- "Every response carries AA, 00, 00 as CMD2 to CMD4, whatever came"
   pub front : (s : States) (p : List ℕ) → take 4 (answerTo s p) ≡ responseType (cmd1Of p) ∷ 0xAA ∷ 0x00 ∷ 0x00 ∷ []
+  -- and is one whole packet with a right checksum
+  pub whole : (s : States) (p : List ℕ) → (packets (answerTo s p) ≡ answerTo s p ∷ []) × (rightSum (answerTo s p) ≡ true)
   -- "how many faults a response carries beside bit 6: the number of error bits set" is how many hold of its packet
   pub faults : (s : States) (p : List ℕ) (f : Faults) → FaultsHold p f → faultBits (getD (answerTo s p) 6 0) (getD (answerTo s p) 7 0) ≡ faultsHeld f
   -- "Park sets what 0015 reads and unpark clears it"
