@@ -1,11 +1,11 @@
 -- Packets one after the other: what they keep, and a read after park and unpark.
 use Prim.Native.Nat.{ℕ}
 use mathlib.Core.Path.{_≡_, refl, ap, _∙_}
-use mathlib.Core.Bool.{true}
 use mathlib.Core.List.{List, [], _∷_, _++_}
 use lib.ListN.{length, getD}
 use Rattle.dlpc200.specs.Packet.{cmd1Of, readResp, packetOf}
-use Rattle.dlpc200.specs.States.{parkAfter, inRange}
+use Rattle.dlpc200.specs.Table.{cmd1For}
+use Rattle.dlpc200.specs.States.{shownOf, dataOf, parkAfter}
 use Rattle.dlpc200.specs.Status.{faultBits, faultsHeld, data0, data1}
 use Rattle.dlpc200.specs.Judgement.{arrived, faultsOf, statesAfter}
 use Rattle.dlpc200.specs.Response.{responseType, response}
@@ -17,7 +17,7 @@ use Rattle.dlpc200.specs.declared.judgement.Judgement.the-variants.{Fail
 use Rattle.dlpc200.specs.declared.states.States.{States}
 use Rattle.dlpc200.proofs.judgement.Laws as judgements
 use Rattle.dlpc200.specs.Playing.{judged, answerTo, next, responses, after}
-use Rattle.dlpc200.specs.Request1.{NoneParks}
+use Rattle.dlpc200.specs.Request1.{AllFail, NoneParks}
 
 -- A failed packet leaves every state, and packets that all fail do.
 
@@ -25,20 +25,10 @@ pub failed-leaves : (s : States) (p : List ℕ) (f : Faults) → judged p ≡ Fa
 unfolding next
 failed-leaves s p f h = ap (statesAfter s) h
 
-abbrev pub AllFail : List (List ℕ) → Type 0
-AllFail [] = Unit {0}
-AllFail (p ∷ ps) = ((f : Faults) × (judged p ≡ Failed f)) × AllFail ps
-
 pub all-failed-leave : (s : States) (ps : List (List ℕ)) → AllFail ps → after s ps ≡ s
 unfolding after
 all-failed-leave s [] h = refl
 all-failed-leave s (p ∷ ps) h = ap (λ (a : States). after a ps) (failed-leaves s p (h .0 .0) (h .0 .1)) ∙ all-failed-leave s ps (h .1)
-
--- In range stays in range, whatever packets come.
-pub in-range-stays : (s : States) (ps : List (List ℕ)) → inRange s ≡ true → inRange (after s ps) ≡ true
-unfolding after next
-in-range-stays s [] h = h
-in-range-stays s (p ∷ ps) h = in-range-stays (next s p) ps (judgements.in-range-kept s (judged p) h)
 
 -- The error bits of each response beside bit 6 are as many as the faults that hold of its packet.
 pub faults-counted : (s : States) (p : List ℕ) → faultBits (getD (answerTo s p) 6 0) (getD (answerTo s p) 7 0) ≡ faultsHeld (faultsOf (arrived p))
@@ -50,12 +40,13 @@ pub failed-answer : (s : States) (p : List ℕ) (f : Faults) → judged p ≡ Fa
 unfolding answerTo response
 failed-answer s p f h = rw h
 
--- A read of 0015 answers the park state.
-pub read-park : (s : States) (q : List ℕ) → judged q ≡ Done GetDmdSoftwareParkState → answerTo s q ≡ packetOf readResp (0x00 ∷ 0x00 ∷ s .park ∷ [])
+-- The response to a command that is carried out: no error bit, and the state that it reads.
+pub done-answer : (s : States) (p : List ℕ) (c : Command) → judged p ≡ Done c
+    → answerTo s p ≡ packetOf (responseType (cmd1For c)) (0x00 ∷ 0x00 ∷ dataOf (shownOf s c))
 unfolding answerTo response
-read-park s q h =
-    let c : cmd1Of q ≡ 0x04 = unfold judged in judgements.done (arrived q) GetDmdSoftwareParkState (unfold judged in h) .cmd1 in
-    rw (h, c)
+done-answer s p c h =
+    let e : cmd1Of p ≡ cmd1For c = unfold judged in judgements.done-cmd1 (arrived p) c (unfold judged in h) in
+    rw (h, e)
 
 -- What neither parks nor unparks leaves the park state.
 
@@ -93,7 +84,7 @@ pub read-after : (c : Command) (s : States) (before between later : List (List �
 unfolding after next
 read-after c s before between later p q h k r =
     response-at s (before ++ (p ∷ between)) later q
-    ∙ read-park (after s (before ++ (p ∷ between))) q r
+    ∙ done-answer (after s (before ++ (p ∷ between))) q GetDmdSoftwareParkState r
     ∙ ap (λ (v : ℕ). packetOf readResp (0x00 ∷ 0x00 ∷ v ∷ []))
     (ap (λ (a : States). a .park) (after-append s before (p ∷ between))
     ∙ parks-kept (next (after s before) p) between k

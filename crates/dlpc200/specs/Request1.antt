@@ -1,24 +1,31 @@
--- What ticket 1 asks of the device and its receive call, as one claim. The rules for one packet are the definitions before; here they are said of whole streams and of
--- the call, and the refusals once more, by orders.
+-- What ticket 1 asks of the device and its receive call, as one claim. The faults of a packet and the refusals are said here once more, as the ticket lists them, by
+-- equations and orders.
 use Prim.Native.Nat.{ℕ, _+_, _<_, _≤_}
 use mathlib.Core.Path.{_≡_}
+use mathlib.Core.Logic.{_↔_}
 use mathlib.Core.Bool.{true, cond}
 use mathlib.Core.List.{List, [], _∷_, _++_}
-use lib.ListN.{length, getD}
+use lib.ListN.{length, getD, take}
 use Rattle.packet.specs.Answer.{Refuses, Waits, Answers, Answering}
 use Rattle.packet.specs.Calls.{Served}
-use Rattle.packet.specs.Packet.{payloadLength}
+use Rattle.packet.specs.Packet.{payloadLength, payload}
 use Rattle.packet.specs.Receiver.{Receiver as PacketReceiver, with}
 use Rattle.packet.specs.Stream.{packets, rest}
-use Rattle.dlpc200.specs.Packet.{readResp, afterCmd4, packetOf}
-use Rattle.dlpc200.specs.Playing.{judged, responses, after}
+use Rattle.dlpc200.specs.Packet.{cmd1Of, cmd2Of, cmd4Of, idOf, write, read, readResp, extended, only, afterCmd4, checksum as checksumOf, rightSum, packetOf}
+use Rattle.dlpc200.specs.Table.{idFor, cmd1For, sizeFor}
+use Rattle.dlpc200.specs.States.{shownOf, dataOf}
+use Rattle.dlpc200.specs.Status.{anyFault, noFaults, data0, data1, faultBits, faultsHeld}
+use Rattle.dlpc200.specs.Judgement.{arrived}
+use Rattle.dlpc200.specs.Response.{responseType}
+use Rattle.dlpc200.specs.Playing.{judged, answerTo, next, responses, after}
 use Rattle.dlpc200.specs.Receiver.{framedBy, receiving}
 use Rattle.dlpc200.specs.Device.{deviceWith, inRule}
 use Rattle.dlpc200.specs.Endpoint.{responseIn, receiveCall}
 use Rattle.dlpc200.specs.Sending.{Sending, sentTo, Ready, Boundary}
 use Rattle.dlpc200.specs.declared.table.Command.{Command}
 use Rattle.dlpc200.specs.declared.table.Command.the-variants.{ParkDmd, UnparkDmd, GetDmdSoftwareParkState}
-use Rattle.dlpc200.specs.declared.judgement.Judgement.the-variants.{Done}
+use Rattle.dlpc200.specs.declared.status.Faults.{Faults}
+use Rattle.dlpc200.specs.declared.judgement.Judgement.the-variants.{Failed, Done}
 use Rattle.dlpc200.specs.declared.states.States.{States}
 use Rattle.dlpc200.specs.declared.device.Device.{Device}
 
@@ -31,6 +38,44 @@ pub record Follows (d : Device) (b : List ℕ) (r : Served Device (List ℕ)) : 
   pub boundary : base .received ≡ 0
   pub unfinished : framedBy (r .state .receiver) ≡ with afterCmd4 base (rest b)
   pub ready : Ready (r .state)
+
+-- The faults of a packet, by equations and orders: of the rules only the table's columns are cited.
+
+-- the packet p is of the command c, by the ID in its first two data bytes
+abbrev pub Names : List ℕ → Command → Type 0
+Names p c = (2 ≤ payloadLength p) × (idOf (payload p) ≡ idFor c)
+
+-- "a CMD1 that is neither 02 nor 04 or is the wrong one for its command"
+pub data WrongCmd1 (p : List ℕ) : Type 0 where
+  NeitherCmd1 : (cmd1Of p ≡ write → ⊥) → (cmd1Of p ≡ read → ⊥) → WrongCmd1 p
+  OtherCmd1 : (c : Command) → Names p c → (cmd1Of p ≡ cmd1For c → ⊥) → WrongCmd1 p
+
+-- "data of the wrong size, under two or over 504 bytes"
+pub data WrongSize (p : List ℕ) : Type 0 where
+  UnderTwo : payloadLength p < 2 → WrongSize p
+  Over504 : 504 < payloadLength p → WrongSize p
+  OtherSize : (c : Command) → Names p c → (payloadLength p ≡ sizeFor c → ⊥) → WrongSize p
+
+-- f are all faults that hold of the packet p, and no others
+pub record FaultsHold (p : List ℕ) (f : Faults) : Type 0 where
+  -- "a wrong checksum"
+  pub checksum : (f .checksum ≡ true) ↔ (getD p (6 + payloadLength p) 0 ≡ checksumOf (take (6 + payloadLength p) p) → ⊥)
+  pub cmd1 : (f .cmd1 ≡ true) ↔ WrongCmd1 p
+  -- "CMD2 not AA"
+  pub cmd2 : (f .cmd2 ≡ true) ↔ (cmd2Of p ≡ extended → ⊥)
+  -- "CMD4 not 00"
+  pub cmd4 : (f .cmd4 ≡ true) ↔ (cmd4Of p ≡ only → ⊥)
+  pub size : (f .size ≡ true) ↔ WrongSize p
+
+-- a packet with these faults fails if there is one of them, or if its command is unknown
+pub data Fails (p : List ℕ) (f : Faults) : Type 0 where
+  HasFault : anyFault f ≡ true → Fails p f
+  UnknownCommand : ((c : Command) → Names p c → ⊥) → Fails p f
+
+-- packets that all fail
+abbrev pub AllFail : List (List ℕ) → Type 0
+AllFail [] = Unit {0}
+AllFail (p ∷ ps) = ((f : Faults) × (judged p ≡ Failed f)) × AllFail ps
 
 -- Park and unpark.
 
@@ -81,6 +126,31 @@ pub record Request1 : Type 0 where
   pub follows : (d : Device) (b : List ℕ) (s : Sending b) → Boundary d → Follows d b (sentTo d s)
   -- and every way of sending the same bytes to a device in rule, with half a packet received or none, gives the same
   pub cut : (d : Device) (b : List ℕ) (s t : Sending b) → Ready d → sentTo d s ≡ sentTo d t
+  -- "CMD3 00 (not judged)": a packet with another is the same to the rules
+  pub cmd3 : (first second third other : ℕ) (q : List ℕ) → arrived (first ∷ second ∷ third ∷ q) ≡ arrived (first ∷ second ∷ other ∷ q)
+  -- a packet fails with all faults that hold of it, exactly when there is one or its command is unknown,
+  pub failed : (p : List ℕ) (f : Faults) → (judged p ≡ Failed f) ↔ (FaultsHold p f × Fails p f)
+  -- and its command is carried out exactly when the packet names it and no fault holds
+  pub done : (p : List ℕ) (c : Command) → (judged p ≡ Done c) ↔ (Names p c × FaultsHold p noFaults)
+  -- a failed packet changes no state, and a stream of such packets none
+  pub leaves : (s : States) (p : List ℕ) (f : Faults) → judged p ≡ Failed f → next s p ≡ s
+  pub badStream : (d : Device) (b : List ℕ) (s : Sending b) → Boundary d → AllFail (packets b) → sentTo d s .state .states ≡ d .states
+  -- "A failed packet sets the bits of all that hold and bit 6 of Data[0] too"; "its response has the two status bytes only, as a read response for CMD1 04 and a write
+  -- response otherwise";
+  pub status : (s : States) (p : List ℕ) (f : Faults) → judged p ≡ Failed f
+      → answerTo s p ≡ packetOf (responseType (cmd1Of p)) (data0 f ∷ data1 f ∷ [])
+  -- "an unknown command by itself sets bit 6 alone"
+  pub alone : (s : States) (p : List ℕ) → ((c : Command) → Names p c → ⊥) → FaultsHold p noFaults
+      → answerTo s p ≡ packetOf (responseType (cmd1Of p)) (0x40 ∷ 0x00 ∷ [])
+  -- a command that is carried out is answered as in its section: no error bit, and after the status bytes the state that it reads
+  pub answers : (s : States) (p : List ℕ) (c : Command) → judged p ≡ Done c
+      → answerTo s p ≡ packetOf (responseType (cmd1For c)) (0x00 ∷ 0x00 ∷ dataOf (shownOf s c))
+  -- "Every response carries AA, 00, 00 as CMD2 to CMD4, whatever came"
+  pub front : (s : States) (p : List ℕ) → take 4 (answerTo s p) ≡ responseType (cmd1Of p) ∷ 0xAA ∷ 0x00 ∷ 0x00 ∷ []
+  -- and is one whole packet with a right checksum
+  pub whole : (s : States) (p : List ℕ) → (packets (answerTo s p) ≡ answerTo s p ∷ []) × (rightSum (answerTo s p) ≡ true)
+  -- "how many faults a response carries beside bit 6: the number of error bits set" is how many hold of its packet
+  pub faults : (s : States) (p : List ℕ) (f : Faults) → FaultsHold p f → faultBits (getD (answerTo s p) 6 0) (getD (answerTo s p) 7 0) ≡ faultsHeld f
   -- "Park sets what 0015 reads and unpark clears it"
   pub parked : ReadAfter ParkDmd 1
   pub unparked : ReadAfter UnparkDmd 0

@@ -1,21 +1,21 @@
 -- What a judgement says of its packet, and what it keeps.
-use Prim.Native.Nat.{ℕ, suc, _+_, _*_, _<_}
+use Prim.Native.Nat.{ℕ, suc, _+_, _*_}
 use mathlib.Core.Path.{_≡_, refl, ap, sym, _∙_}
 use mathlib.Core.Bool.{true, false, not, _&&_, _||_}
 use mathlib.Core.List.{List, _∷_}
 use native.Mathlib.Omega.{arith}
-use lib.Dec.{eqb, leb, ltb}
-use borrow.Author.Tests.{lt-ltb, le-ltb, eqb-true, not-false}
+use lib.Dec.{eqb, leb}
+use borrow.Author.Tests.{eqb-true, not-false}
 use lib.ListN.{getD}
 use lib.Count.{onesIn, ones}
 use Rattle.packet.specs.Number.{bytesOf}
 use Rattle.packet.specs.Packet.{payload}
 use Rattle.packet.proofs.Cases.{cond-cases, and-left, or-left, or-right}
-use Rattle.dlpc200.specs.Packet.{write, read, extended, only, checksum, rightSum, packetOf}
-use Rattle.dlpc200.specs.Table.{cmd1For, sizeFor}
+use Rattle.dlpc200.specs.Packet.{write, read, checksum, rightSum, packetOf}
+use Rattle.dlpc200.specs.Table.{cmd1For}
 use Rattle.dlpc200.specs.States.{parkAfter, inRange}
-use Rattle.dlpc200.specs.Status.{anyFault, noFaults, data0, data1, faultBits, faultsHeld}
-use Rattle.dlpc200.specs.Judgement.{Arrived, arrived, wrongCmd1, wrongSize, faultsOf, judgeCommand, judge, withPark, statesAfter}
+use Rattle.dlpc200.specs.Status.{anyFault, noFaults, faultBits, faultsHeld}
+use Rattle.dlpc200.specs.Judgement.{Arrived, arrived, wrongCmd1, faultsOf, judgeCommand, judge, withPark, statesAfter}
 use Rattle.dlpc200.specs.Response.{responseType, responseData, response}
 use Rattle.dlpc200.specs.declared.table.Command.{Command}
 use Rattle.dlpc200.specs.declared.table.Command.the-variants.{ParkDmd, UnparkDmd, GetDmdSoftwareParkState, GetSeqRunState, GetEepromFault, GetInitFromParallelFlashFail, GetOverallLedLampLitState}
@@ -28,7 +28,7 @@ use Rattle.dlpc200.specs.declared.states.States.{States}
 use Rattle.dlpc200.proofs.status.Laws.{faults-counted}
 
 -- what holds of each command of the table holds of all
-each : (P : Command → Type 0)
+pub each : (P : Command → Type 0)
     → P ParkDmd × P UnparkDmd × P GetDmdSoftwareParkState × P GetSeqRunState × P GetEepromFault × P GetInitFromParallelFlashFail × P GetOverallLedLampLitState
     → (c : Command)
     → P c
@@ -40,7 +40,7 @@ each P h GetEepromFault = h .4
 each P h GetInitFromParallelFlashFail = h .5
 each P h GetOverallLedLampLitState = h .6
 
--- A packet is carried out exactly when its command is known and it has none of the faults.
+-- A packet that is carried out has none of the faults, and its command is known.
 
 pub record Faultless (f : Faults) : Type 0 where
   pub checksum : f .checksum ≡ false
@@ -62,19 +62,11 @@ none-hold f h =
       size = or-right (f .checksum || f .cmd1 || f .cmd2 || f .cmd4) (f .size) h;
     }
 
-pub record CarriedOut (p : Arrived) (c : Command) : Type 0 where
-  pub command : p .command ≡ Known c
-  pub right : p .right ≡ true
-  pub cmd1 : p .cmd1 ≡ cmd1For c
-  pub cmd2 : p .cmd2 ≡ extended
-  pub cmd4 : p .cmd4 ≡ only
-  pub size : p .size ≡ sizeFor c
-
 known-done : (f : Found) (c : Command) → judgeCommand f ≡ Done c → f ≡ Known c
 known-done Unknown c h = let z : _≡_ {A = ℕ} 0 1 = cc in absurd (omega arith)
 known-done (Known d) c h = cc
 
-done-faultless : (p : Arrived) (c : Command) → judge p ≡ Done c → (anyFault (faultsOf p) ≡ false) × (p .command ≡ Known c)
+pub done-faultless : (p : Arrived) (c : Command) → judge p ≡ Done c → (anyFault (faultsOf p) ≡ false) × (p .command ≡ Known c)
 unfolding judge
 done-faultless p c =
     cond-cases (λ j. j ≡ Done c → (anyFault (faultsOf p) ≡ false) × (p .command ≡ Known c)) (anyFault (faultsOf p))
@@ -85,33 +77,15 @@ right-cmd1 : (c : Command) (n : ℕ) → wrongCmd1 (Known c) n ≡ false → n �
 unfolding wrongCmd1
 right-cmd1 c n h = eqb-true n (cmd1For c) (not-false (eqb n (cmd1For c)) (or-right (not (eqb n write) && not (eqb n read)) (not (eqb n (cmd1For c))) h))
 
-right-size : (c : Command) (n : ℕ) → wrongSize (Known c) n ≡ false → n ≡ sizeFor c
-unfolding wrongSize
-right-size c n h = eqb-true n (sizeFor c) (not-false (eqb n (sizeFor c)) (or-right (ltb n 2 || ltb 504 n) (not (eqb n (sizeFor c))) h))
-
-pub done : (p : Arrived) (c : Command) → judge p ≡ Done c → CarriedOut p c
+-- and CMD1 is the command's
+pub done-cmd1 : (p : Arrived) (c : Command) → judge p ≡ Done c → p .cmd1 ≡ cmd1For c
 unfolding faultsOf
-done p c h =
+done-cmd1 p c h =
     let k : p .command ≡ Known c = done-faultless p c h .1 in
     let f = none-hold (faultsOf p) (done-faultless p c h .0) in
-    record {
-      command = k;
-      right = not-false (p .right) (f .checksum);
-      cmd1 = right-cmd1 c (p .cmd1) (sym (ap (λ (x : Found). wrongCmd1 x (p .cmd1)) k) ∙ f .cmd1);
-      cmd2 = eqb-true (p .cmd2) extended (not-false (eqb (p .cmd2) extended) (f .cmd2));
-      cmd4 = eqb-true (p .cmd4) only (not-false (eqb (p .cmd4) only) (f .cmd4));
-      size = right-size c (p .size) (sym (ap (λ (x : Found). wrongSize x (p .size)) k) ∙ f .size);
-    }
+    right-cmd1 c (p .cmd1) (sym (ap (λ (x : Found). wrongCmd1 x (p .cmd1)) k) ∙ f .cmd1)
 
-cmd1-fits : (c : Command) → wrongCmd1 (Known c) (cmd1For c) ≡ false
-unfolding wrongCmd1
-cmd1-fits = each (λ c. wrongCmd1 (Known c) (cmd1For c) ≡ false) (refl, refl, refl, refl, refl, refl, refl)
-
-pub carried-out : (p : Arrived) (c : Command) → CarriedOut p c → judge p ≡ Done c
-unfolding judge faultsOf
-carried-out p c h = rw (h .command, h .right, h .cmd1, h .cmd2, h .cmd4, h .size, cmd1-fits c) (unfold wrongSize in refl)
-
--- and fails otherwise: with its faults if it has one, and with none of their bits if its command alone is unknown.
+-- A packet fails otherwise: with its faults if it has one, and with none of their bits if its command alone is unknown.
 
 pub fails : (p : Arrived) → anyFault (faultsOf p) ≡ true → judge p ≡ Failed (faultsOf p)
 unfolding judge
@@ -121,21 +95,6 @@ pub unknown-alone : (p : Arrived) → anyFault (faultsOf p) ≡ false → p .com
 unfolding judge
 unknown-alone p h k = rw (h, k)
 
--- Under two or over 504 data bytes fail, whatever the command.
-
-outside : (f : Found) (n : ℕ) → (ltb n 2 || ltb 504 n) ≡ true → wrongSize f n ≡ true
-unfolding wrongSize
-outside Unknown n h = h
-outside (Known c) n h = rw h
-
-pub short-data : (p : Arrived) → p .size < 2 → faultsOf p .size ≡ true
-unfolding faultsOf
-short-data p h = outside (p .command) (p .size) (rw (lt-ltb (p .size) 2 h))
-
-pub long-data : (p : Arrived) → 504 < p .size → faultsOf p .size ≡ true
-unfolding faultsOf
-long-data p h = outside (p .command) (p .size) (rw (le-ltb (p .size) 2 (omega arith), lt-ltb 504 (p .size) h))
-
 -- CMD3 is not judged: a packet with another is the same to the rules.
 
 six : (n : ℕ) → 6 + n ≡ suc (suc (suc (suc (suc (suc n)))))
@@ -144,10 +103,6 @@ six n = omega arith
 pub cmd3-not-judged : (a b c c′ : ℕ) (q : List ℕ) → arrived (a ∷ b ∷ c ∷ q) ≡ arrived (a ∷ b ∷ c′ ∷ q)
 unfolding rightSum payload checksum
 cmd3-not-judged a b c c′ q = rw (six (getD q 1 0 + 256 * getD q 2 0))
-
--- An unknown command by itself sets bit 6 alone.
-pub bit-6-alone : (data0 noFaults ≡ 0x40) × (data1 noFaults ≡ 0)
-bit-6-alone = (refl, refl)
 
 -- In range stays in range.
 
