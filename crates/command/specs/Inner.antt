@@ -93,7 +93,7 @@ faultsOf c opened ours n type flags size right =
 abbrev pub stateIn : Settings → TransferState → List ℕ → State
 stateIn s t buffer = record { settings = s; transfer = transferIn t buffer }
 
--- A controller whose arrays are lent apart from its registers: the contracts of serve and receive state receiveCall of it.
+-- A controller whose arrays are lent apart from its registers: the contracts of settle, advance and serve are about it.
 
 abbrev pub controllerOf : Registers → List ℕ → List ℕ → Controller
 controllerOf r buffer hold = record { registers = r; buffer = buffer; hold = hold }

@@ -32,7 +32,7 @@ responseOf (Waits n) out = none
 responseOf (Answers n m) out = some (take m out)
 
 -- How a call answers that is lent the output `out`; `Refused n` says that it answers refusal n. In the order of the table:
-pub record Answering (Refused : ℕ → Type 0) (out : List ℕ) (shortest second : ℕ) (Holds Untouched Answered : Type 0) : Type 0 where
+pub record Answering (Refused : ℕ → Type 0) (out : List ℕ) (shortest second : ℕ) (Holds Untouched Fine : Type 0) : Type 0 where
   -- 1 exactly when the output is shorter than this
   pub short : Refused 1 ↔ (length out < shortest)
   -- its second number exactly when it is not shorter and `Holds`
@@ -42,4 +42,4 @@ pub record Answering (Refused : ℕ → Type 0) (out : List ℕ) (shortest secon
   -- a refusal touches nothing lent
   pub untouched : (n : ℕ) → Refused n → Untouched
   -- and where nothing is refused the call is answered
-  pub answers : shortest ≤ length out → (Holds → ⊥) → Answered
+  pub answers : shortest ≤ length out → (Holds → ⊥) → Fine

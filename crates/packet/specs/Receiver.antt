@@ -41,7 +41,8 @@ with k r b =
 abbrev pub between : Receiver → Receiver
 between r = record { header = r .header; running = 0; received = 0; hold = r .hold }
 
--- how many bytes the current packet still wants, as the header says once b has come in: the checksum at least
+-- how many bytes the current packet still wants, as the header says once b has come in: the checksum at least. With under six bytes in, the length there is the
+-- last packet's; at least seven are wanted then all the same, so that b ends before the packet does.
 unfoldable pub missing : Receiver → List ℕ → ℕ
 missing r b = max 1 (7 + payloadLength (sets (r .header) (r .received) b) - r .received)
 
