@@ -9,7 +9,7 @@ use borrow.Author.Tests.{lt-ltb, le-ltb, ltb-true, ltb-false, ne-eqb, eqb-true, 
 use lib.Dec.{eqb, ltb}
 use lib.ListN.{getD, take}
 use Rattle.packet.specs.Packet.{payloadLength, payload}
-use Rattle.packet.proofs.Cases.{cond-cases, bool-cases, and-left, and-right, and-both}
+use Rattle.packet.proofs.Cases.{cond-cases, bool-cases, and-left, and-right, and-both, or-cases, or-that}
 use Rattle.dlpc200.specs.Packet.{cmd1Of, cmd2Of, cmd4Of, idOf, write, read, extended, only, checksum, rightSum}
 use Rattle.dlpc200.specs.Table.{table, idFor, cmd1For, sizeFor, find, commandOf}
 use Rattle.dlpc200.specs.Status.{anyFault, noFaults}
@@ -28,14 +28,6 @@ use Rattle.dlpc200.proofs.judgement.Laws.{each, none-hold, done-faultle
 
 not-equal : (n m : ℕ) → (not (eqb n m) ≡ true) ↔ (n ≡ m → ⊥)
 not-equal n m = (λ h. eqb-false n m (not-true (eqb n m) h), λ h. rw (ne-eqb n m h))
-
-or-cases : {P : Type 0} (a b : Bool) → (a ≡ true → P) → (b ≡ true → P) → (a || b) ≡ true → P
-or-cases true b f g h = f refl
-or-cases false b f g h = g h
-
-or-that : (a b : Bool) → b ≡ true → (a || b) ≡ true
-or-that true b h = refl
-or-that false b h = h
 
 same-test : {P : Type 0} (a b : Bool) → ((a ≡ true) ↔ P) → ((b ≡ true) ↔ P) → a ≡ b
 same-test true b h k = sym (k .1 (h .0 refl))

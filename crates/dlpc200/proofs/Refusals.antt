@@ -11,7 +11,7 @@ use lib.ListN.{length}
 use Rattle.packet.specs.Packet.{payloadLength}
 use Rattle.packet.specs.Answer.{Refuses, Waits, Answers, Answering}
 use Rattle.packet.specs.Receiver.{packetInRule}
-use Rattle.packet.proofs.Cases.{bool-cases, cond-cases}
+use Rattle.packet.proofs.Cases.{bool-cases, cond-cases, and-cases}
 use Rattle.packet.proofs.Answering.{answering, refusal-number, answers-not-refused, waits-not-refused, all-taken}
 use Rattle.dlpc200.specs.Packet.{afterCmd4}
 use Rattle.dlpc200.specs.Receiver.{framedBy, receiving}
@@ -21,10 +21,6 @@ use Rattle.dlpc200.specs.Endpoint.{responseIn, After, refused, ended, re
 use Rattle.dlpc200.specs.Request1.{OutOfRange, ParkOut, SequenceOut, EepromOut, FlashOut, LitOut, OutOfRule, BadState, HasAllBytes}
 use Rattle.dlpc200.specs.declared.states.States.{States}
 use Rattle.dlpc200.specs.declared.device.Device.{Device}
-
-and-cases : {P : Type 0} (a b : Bool) → (a ≡ false → P) → (b ≡ false → P) → (a && b) ≡ false → P
-and-cases true b f g h = g h
-and-cases false b f g h = f refl
 
 -- The states' ranges are those of their sections,
 pub states-out : (s : States) → (inRange s ≡ false) ↔ OutOfRange s

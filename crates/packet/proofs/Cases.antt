@@ -43,3 +43,16 @@ or-right true b h = absurd-tf h
     absurd-tf : _≡_ {A = Bool} true false → b ≡ false
     absurd-tf e = cc
 or-right false b h = h
+
+-- which part of a disjunction holds, or of a conjunction fails
+pub or-cases : {P : Type 0} (a b : Bool) → (a ≡ true → P) → (b ≡ true → P) → (a || b) ≡ true → P
+or-cases true b f g h = f refl
+or-cases false b f g h = g h
+
+pub and-cases : {P : Type 0} (a b : Bool) → (a ≡ false → P) → (b ≡ false → P) → (a && b) ≡ false → P
+and-cases true b f g h = g h
+and-cases false b f g h = f refl
+
+pub or-that : (a b : Bool) → b ≡ true → (a || b) ≡ true
+or-that true b h = refl
+or-that false b h = h

@@ -9,7 +9,7 @@ use lib.Dec.{eqb, ltb}
 use lib.ListN.{length}
 use borrow.Author.Tests.{lt-ltb, ltb-true, eq-eqb, ne-eqb, eqb-true, eqb-false, not-true, not-false}
 use Rattle.packet.specs.Packet.{hostWrite, hostRead, whole, beginning, intermediate, last, checksum}
-use Rattle.packet.proofs.Cases.{bool-cases, and-left, and-right, and-both, or-left, or-right}
+use Rattle.packet.proofs.Cases.{bool-cases, and-left, and-right, and-both, or-left, or-right, or-cases, or-that}
 use Rattle.command.specs.Table.{cmd1For, cmd2For, commandOf, same, readable}
 use Rattle.command.specs.Transfer.{Transfer, Closed, Opened, isOpen, held, openFor}
 use Rattle.command.specs.Inner.{faultsOf}
@@ -111,17 +111,6 @@ held-listed k n (Code0B h) =
     (listed-later (k .precondition) 7 11 _ (listed-later (k .checksum) 9 11 _ (listed-later (k .format) 10 11 _ (listed-here (k .continuation) 11 [] h))))))
 
 -- The tests of the first group are document 01's lines.
-
-pub or-cases : {P : Type 0} (a b : Bool) → (a ≡ true → P) → (b ≡ true → P) → (a || b) ≡ true → P
-or-cases true b f g h = f refl
-or-cases false b f g h = g h
-
-pub and-cases : {P : Type 0} (a b : Bool) → (a ≡ false → P) → (b ≡ false → P) → (a && b) ≡ false → P
-and-cases true b f g h = g h
-and-cases false b f g h = f refl
-
-pub or-that : (a b : Bool) → b ≡ true → (a || b) ≡ true
-or-that a b h = rw h (or-true a)
 
 pub never : {P : Type 0} → _≡_ {A = Bool} false true → P
 never h = let z : _≡_ {A = ℕ} 0 1 = cc in absurd (omega arith)
