@@ -1,37 +1,47 @@
 -- Demand 1: bad packets and bad calls.
-use Prim.Native.Nat.{ℕ, _+_}
+use Prim.Native.Nat.{ℕ, _+_, _<_}
 use mathlib.Core.Path.{_≡_, refl, ap, sym, _∙_}
 use mathlib.Core.Logic.{_↔_, _⊎_, inl, inr}
-use mathlib.Core.Bool.{false}
+use mathlib.Core.Bool.{true, false}
 use mathlib.Core.List.{List, [], _∷_, _++_}
 use native.Mathlib.Omega.{arith}
-use lib.Dec.{ltb}
+use lib.Dec.{eqb, ltb}
 use lib.ListN.{length, take, drop, getD, length-append}
 use lib.Seq.{take-at, drop-at}
-use borrow.Author.Tests.{ne-eqb, eqb-false}
-use Rattle.packet.specs.Packet.{packetOf, error, whole, writeResponse, readResponse, typeOf, payloadLength, rightSum, checksum, header, sealed}
+use borrow.Author.Tests.{eq-eqb, ne-eqb, eqb-true, eqb-false}
+use Rattle.packet.specs.Packet.{packetOf, error, hostWrite, hostRead, whole, beginning, intermediate, last, writeResponse, readResponse, typeOf, cmd1Of, cmd2Of, flagsOf, payloadLength, payload, rightSum, checksum, header, sealed}
 use Rattle.packet.specs.Answer.{Refuses, Waits, Answers}
 use Rattle.packet.specs.Receiver.{Received}
 use Rattle.packet.specs.Stream.{packets}
 use Rattle.packet.specs.Writer.{written}
 use Rattle.packet.specs.Number.{bytesOf}
-use Rattle.packet.proofs.Cases.{cond-cases}
-use Rattle.command.specs.Value.{dataOf}
-use Rattle.command.specs.Transfer.{Transfer, Closed}
-use Rattle.command.specs.Faults.{Arrived, arrived, codesOf}
-use Rattle.command.specs.Judgement.{judge}
+use Rattle.packet.proofs.Cases.{bool-cases, cond-cases, and-both, or-left, or-right}
+use Rattle.command.specs.Table.{cmd1For, cmd2For, same, layout}
+use Rattle.command.specs.Settings.{store}
+use Rattle.command.specs.Data.{splitAll}
+use Rattle.command.specs.Value.{dataOf, valueFrom}
+use Rattle.command.specs.Transfer.{Transfer, Closed, Opened, held}
+use Rattle.command.specs.Faults.{Arrived, arrived, faults, anyFault, sizeFault, valueFault, modeFault, codesOf}
+use Rattle.command.specs.Judgement.{completes, judge}
 use Rattle.command.specs.Carry.{settingsAfter, transferAfter}
 use Rattle.command.specs.Response.{responseType, codesIn, response}
 use Rattle.command.specs.Player.{State, from, judged, next, judgements, after, endSettings, endClean}
 use Rattle.command.specs.Controller.{stateOf, transferStateAfter, inRule}
 use Rattle.command.specs.Endpoint.{takenBy, arrivedIn, judgedIn, responseIn, After, answered, receiveCall}
 use Rattle.command.specs.Sending.{Sending, sentTo, Boundary}
-use Rattle.command.specs.Demand1.{SettingsOutOfRule, DrawsOn, errorPacket, ErrorSent, acceptedWrites, storeAll, AllBad, NoPacket, BadPacket, Demand1}
+use Rattle.command.specs.Demand1.{Names, Continues, Starts, Completes, FirstFault, UnknownType, UnknownFlags, NoWriteInParts, NoneOpen, OpenForAnother, StillOpen, SettingsOutOfRule, DrawsOn, errorPacket, writeResponseTo, Accepted, Opens, Adds, CarriesOut, Stores, ReadsOut, ErrorSent, acceptedWrites, storeAll, AllBad, NoPacket, BadPacket, Demand1}
+use Rattle.command.specs.declared.table.Command.{Command}
+use Rattle.command.specs.declared.table.Found.{Found}
 use Rattle.command.specs.declared.settings.Settings.{Settings}
+use Rattle.command.specs.declared.faults.Codes.{Codes}
 use Rattle.command.specs.declared.judgement.Judgement.{Judgement}
 use Rattle.command.specs.declared.judgement.Judgement.the-variants.{Error, Hold, Write, Read}
 use Rattle.command.specs.declared.transfer.TransferState.{TransferState}
 use Rattle.command.specs.declared.controller.Controller.{Controller}
+use Rattle.command.proofs.table.Laws.{known-code, same-eq}
+use Rattle.command.proofs.value.Laws.{command-from, values-from}
+use Rattle.command.proofs.faults.Laws.{never, two-true, firstGroup, no-fault}
+use Rattle.command.proofs.judgement.Laws.{judge-cases}
 use Rattle.command.proofs.judgement.Called.{IsError, exactly-called}
 use Rattle.command.proofs.endpoint.Boundary.{follows-played}
 use Rattle.command.proofs.Refusals.{settings-out, receive-refuses, encode-refuses, list-refuses}
@@ -89,23 +99,125 @@ module _ (a : State) (q : List ℕ) where
       let e = exactly-called (a .settings .mode) (a .transfer) (arrived q) codes in
       (λ h. e .0 (response-error (a .settings) (arrived q) j codes h), λ d. error-response (a .settings) (arrived q) j codes (e .1 d))
 
-  good-answer : ((codes : List ℕ) → DrawsOn a (arrived q) codes → ⊥)
-      → let r = response (a .settings) (arrived q) (judged a q) in (typeOf r ≡ writeResponse) ⊎ (typeOf r ≡ readResponse)
-  good-answer none = go (judged a q) (λ codes h. none codes (packet-called codes .0 h))
-    where
-      go : (j : Judgement) → ((codes : List ℕ) → response (a .settings) (arrived q) j ≡ errorPacket (arrived q) codes → ⊥)
-          → let r = response (a .settings) (arrived q) j in (typeOf r ≡ writeResponse) ⊎ (typeOf r ≡ readResponse)
-      go (Error k) n = absurd (n (codesOf k) (unfold response in refl))
-      go (Hold c) n = inl (unfold response packetOf sealed in refl)
-      go (Write v) n = inl (unfold response packetOf sealed in refl)
-      go (Read c) n = inr (unfold response packetOf sealed in refl)
-
   bad-leaves : (codes : List ℕ) → DrawsOn a (arrived q) codes → next a q ≡ from (a .settings)
   unfolding next judged
   bad-leaves codes d =
       let j = judge (a .settings .mode) (a .transfer) (arrived q) in
       let e = exactly-called (a .settings .mode) (a .transfer) (arrived q) codes .1 d in
       rw (error-leaves (a .settings) j (e .type), error-closes (a .transfer) (arrived q) j (e .type))
+
+-- What is known of a packet with none of the first group's faults: its type, its flags and the transfer that is open.
+module _ (t : Transfer) (p : Arrived) (none : (n : ℕ) → FirstFault t p n → ⊥) where
+  -- it is a write if it is no read
+  write-type : eqb (p .type) hostRead ≡ false → p .type ≡ hostWrite
+  write-type r =
+      bool-cases (eqb (p .type) hostWrite) (λ w. eqb-true (p .type) hostWrite w)
+      (λ w. absurd (none 0x02 (UnknownType (eqb-false (p .type) hostWrite w) (eqb-false (p .type) hostRead r))))
+
+  -- flags other than 00 are a write's
+  part-type : (p .flags ≡ whole → ⊥) → p .type ≡ hostWrite
+  part-type f =
+      bool-cases (eqb (p .type) hostWrite) (λ w. eqb-true (p .type) hostWrite w)
+      (λ w. absurd (none 0x0B (NoWriteInParts (eqb-false (p .type) hostWrite w) f)))
+
+  -- and a read's are 00
+  read-flags : p .type ≡ hostRead → p .flags ≡ whole
+  read-flags r =
+      bool-cases (eqb (p .flags) whole) (λ w. eqb-true (p .flags) whole w)
+      (λ w. absurd (omega (arith, part-type (eqb-false (p .flags) whole w))))
+
+  -- flags that complete no write are 01 or 02
+  part-flags : completes (p .flags) ≡ false → (p .flags ≡ beginning) ⊎ (p .flags ≡ intermediate)
+  part-flags f =
+      let w = eqb-false (p .flags) whole (or-left _ _ f) in
+      let l = eqb-false (p .flags) last (or-right (eqb (p .flags) whole) _ f) in
+      bool-cases (eqb (p .flags) beginning) (λ b. inl (eqb-true (p .flags) beginning b))
+      (λ b. inr (known-flags w (eqb-false (p .flags) beginning b) l (λ o. none 0x0B (UnknownFlags o))))
+    where
+      known-flags : (p .flags ≡ whole → ⊥) → (p .flags ≡ beginning → ⊥) → (p .flags ≡ last → ⊥) → (last < p .flags → ⊥) → p .flags ≡ intermediate
+      known-flags w b l o = omega arith
+
+  -- flags 00 or 01 come with no transfer open, 02 or 03 with one for their command
+  none-open : Starts (p .flags) → t ≡ Closed
+  none-open f = go t refl
+    where
+      go : (u : Transfer) → t ≡ u → t ≡ Closed
+      go Closed e = e
+      go (Opened c d) e = absurd (none 0x0B (StillOpen c d f e))
+
+  open-for : (c : Command) → Names (p .cmd1) (p .cmd2) c → Continues (p .flags) → t ≡ Opened c (held t)
+  open-for c k f = go t refl
+    where
+      go : (u : Transfer) → t ≡ u → u ≡ Opened c (held u)
+      go Closed e = absurd (none 0x0B (NoneOpen f e))
+      go (Opened b d) e =
+          bool-cases (same c b) (λ s. rw (same-eq c b s))
+          (λ s. absurd (none 0x0B (OpenForAnother b d f e
+          (λ n. never (sym s ∙ and-both _ _ (eq-eqb (cmd1For c) (cmd1For b) (sym (k .0) ∙ n .0)) (eq-eqb (cmd2For c) (cmd2For b) (sym (k .1) ∙ n .1)))))))
+
+-- A packet with no fault is accepted.
+module _ (a : State) (q : List ℕ) where
+  -- a judgement that is no error is that of an accepted packet
+  abbrev Accepts : Judgement → Type 0
+  Accepts j =
+      ((codes : List ℕ) → IsError j codes → ⊥)
+      → Accepted a q (response (a .settings) (arrived q) j)
+      (record { settings = settingsAfter (a .settings) j; transfer = transferAfter (a .transfer) (arrived q) j })
+
+  no-error : (k : Codes) → Accepts (Error k)
+  no-error k n = absurd (n (codesOf k) (record { type = refl; lists = refl }))
+
+  module _ (c : Command) (k : Names (cmd1Of q) (cmd2Of q) c) (none : (n : ℕ) → FirstFault (a .transfer) (arrived q) n → ⊥) where
+    accepts-part : completes (flagsOf q) ≡ false → Accepts (Hold c)
+    unfolding response
+    accepts-part f _ = go (part-flags (a .transfer) (arrived q) none f)
+      where
+        write : typeOf q ≡ hostWrite
+        write = part-type (a .transfer) (arrived q) none (eqb-false (flagsOf q) whole (or-left _ _ f))
+
+        go : (flagsOf q ≡ beginning) ⊎ (flagsOf q ≡ intermediate)
+            → Accepted a q (writeResponseTo q) (record { settings = a .settings; transfer = Opened c (held (a .transfer) ++ payload q) })
+        go (inl b) = let e = none-open (a .transfer) (arrived q) none (inr b) in rw (ap (λ (u : Transfer). held u) e) (Opens c write b k e)
+        go (inr i) = Adds c (held (a .transfer)) write i k (open-for (a .transfer) (arrived q) none c k (inl i))
+
+    accepts-write : completes (flagsOf q) ≡ true → eqb (typeOf q) hostRead ≡ false
+        → let v = splitAll (layout c) (held (a .transfer) ++ payload q) in
+        length v ≡ length (layout c) → Accepts (Write (valueFrom c v))
+    unfolding response
+    accepts-write f r n _ =
+        let v = splitAll (layout c) (held (a .transfer) ++ payload q) in
+        rw (command-from c v, values-from c v n) (go (two-true (flagsOf q) whole last f))
+      where
+        write : typeOf q ≡ hostWrite
+        write = write-type (a .transfer) (arrived q) none r
+
+        go : Completes (flagsOf q)
+            → Accepted a q (writeResponseTo q) (from (store c (splitAll (layout c) (held (a .transfer) ++ payload q)) (a .settings)))
+        go (inl w) = let e = none-open (a .transfer) (arrived q) none (inl w) in rw (ap (λ (u : Transfer). held u) e) (Stores c write w k e)
+        go (inr l) = CarriesOut c (held (a .transfer)) write l k (open-for (a .transfer) (arrived q) none c k (inr l))
+
+    accepts-read : typeOf q ≡ hostRead → Accepts (Read c)
+    unfolding response
+    accepts-read r _ = ReadsOut c r (read-flags (a .transfer) (arrived q) none r) k
+
+  good-accepted : ((codes : List ℕ) → DrawsOn a (arrived q) codes → ⊥) → Accepted a q (response (a .settings) (arrived q) (judged a q)) (next a q)
+  unfolding next judged
+  good-accepted free =
+      judge-cases Accepts (a .settings .mode) (a .transfer) (arrived q) (λ _. no-error (firstGroup (a .transfer) (arrived q)))
+      (λ c e h.
+      let k : Names (cmd1Of q) (cmd2Of q) c = known-code (cmd1Of q) (cmd2Of q) c e in
+      let none : (n : ℕ) → FirstFault (a .transfer) (arrived q) n → ⊥ =
+      no-fault (a .transfer) (arrived q) (ap (λ (f : Found). anyFault (faults f (a .transfer) (arrived q))) e ∙ h) in
+      record {
+        hold = accepts-part c k none;
+        read = λ _ r _. accepts-read c k none (eqb-true (typeOf q) hostRead r);
+        asked = λ _ _ _. no-error sizeFault;
+        size = λ _ _ _. no-error sizeFault;
+        value = λ _ _ _ _. no-error valueFault;
+        blocks = λ _ _ _ _ _. no-error modeFault;
+        write = λ f r _ w. accepts-write c k none f r (w .full);
+      })
+      (λ codes i. free codes (exactly-called (a .settings .mode) (a .transfer) (arrived q) codes .0 i))
 
 wrong-sum : (q : List ℕ) → (arrived q .right ≡ false) ↔ (getD q (6 + payloadLength q) 0 ≡ checksum (take (6 + payloadLength q) q) → ⊥)
 unfolding rightSum
@@ -232,7 +344,7 @@ demand1 =
     record {
       called = packet-called;
       wrongSum = wrong-sum;
-      good = good-answer;
+      good = good-accepted;
       leaves = bad-leaves;
       sent = error-sent;
       owed = error-owed;

@@ -8,14 +8,14 @@ use mathlib.Core.Bool.{false, cond}
 use mathlib.Core.List.{List, [], _∷_, _++_, List·Memᴰ}
 use lib.ListN.{length, take, drop, getD}
 use Rattle.packet.specs.Answer.{Refuses, Waits, Answers, Answering}
-use Rattle.packet.specs.Packet.{typeOf, cmd1Of, cmd2Of, payloadLength, checksum, packetOf, error, hostWrite, hostRead, writeResponse, readResponse, whole, beginning, intermediate, last}
+use Rattle.packet.specs.Packet.{typeOf, cmd1Of, cmd2Of, flagsOf, payloadLength, payload, checksum, packetOf, error, hostWrite, hostRead, writeResponse, readResponse, whole, beginning, intermediate, last}
 use Rattle.packet.specs.Stream.{packets}
 use Rattle.packet.specs.Writer.{written}
 use Rattle.command.specs.Table.{cmd1For, cmd2For, layout, sizeOf}
 use Rattle.command.specs.Settings.{valuesOf, store}
 use Rattle.command.specs.Rules.{allowed}
 use Rattle.command.specs.Data.{splitAll}
-use Rattle.command.specs.Value.{commandIn, valuesIn}
+use Rattle.command.specs.Value.{commandIn, valuesIn, dataOf}
 use Rattle.command.specs.Transfer.{Transfer, Closed, Opened, held}
 use Rattle.command.specs.Faults.{Arrived, arrived}
 use Rattle.command.specs.Response.{response}
@@ -111,6 +111,31 @@ DrawsOn a p codes = Draws (a .settings .mode) (a .transfer) p codes
 abbrev pub errorPacket : Arrived → List ℕ → List ℕ
 errorPacket p codes = packetOf error (p .cmd1) (p .cmd2) whole codes
 
+-- "Each response repeats the CMD1 and CMD2 received, with flags 00. Write response: no payload."
+abbrev pub writeResponseTo : List ℕ → List ℕ
+writeResponseTo q = packetOf writeResponse (cmd1Of q) (cmd2Of q) whole []
+
+-- "Read response: the command's data."
+abbrev pub readResponseTo : List ℕ → Command → Settings → List ℕ
+readResponseTo q c s = packetOf readResponse (cmd1Of q) (cmd2Of q) whole (dataOf c s)
+
+-- The packet q is accepted on the state a: the response that it draws, and the state after it.
+pub data Accepted (a : State) (q : List ℕ) : List ℕ → State → Type 0 where
+  -- "An accepted 01 opens a transfer": none was open, and its data are the payload;
+  Opens : (c : Command) → typeOf q ≡ hostWrite → flagsOf q ≡ beginning → Names (cmd1Of q) (cmd2Of q) c → a .transfer ≡ Closed
+      → Accepted a q (writeResponseTo q) (record { settings = a .settings; transfer = Opened c (payload q) })
+  -- "02 adds to it". "Flags 01 and 02, accepted, change only the transfer."
+  Adds : (c : Command) (d : List ℕ) → typeOf q ≡ hostWrite → flagsOf q ≡ intermediate → Names (cmd1Of q) (cmd2Of q) c → a .transfer ≡ Opened c d
+      → Accepted a q (writeResponseTo q) (record { settings = a .settings; transfer = Opened c (d ++ payload q) })
+  -- "03 adds and carries it out": it "stores the joined data and closes the transfer".
+  CarriesOut : (c : Command) (d : List ℕ) → typeOf q ≡ hostWrite → flagsOf q ≡ last → Names (cmd1Of q) (cmd2Of q) c → a .transfer ≡ Opened c d
+      → Accepted a q (writeResponseTo q) (from (store c (splitAll (layout c) (d ++ payload q)) (a .settings)))
+  -- "A write accepted with flags 00 stores its data."
+  Stores : (c : Command) → typeOf q ≡ hostWrite → flagsOf q ≡ whole → Names (cmd1Of q) (cmd2Of q) c → a .transfer ≡ Closed
+      → Accepted a q (writeResponseTo q) (from (store c (splitAll (layout c) (payload q)) (a .settings)))
+  -- "A read that draws a read response changes nothing."
+  ReadsOut : (c : Command) → typeOf q ≡ hostRead → flagsOf q ≡ whole → Names (cmd1Of q) (cmd2Of q) c → Accepted a q (readResponseTo q c (a .settings)) a
+
 -- Every error packet that a receive call sends, on a controller of any values; m is the response's length in its answer.
 pub record ErrorSent (c : Controller) (input out : List ℕ) (m : ℕ) : Type 0 where
   pub codes : List ℕ
@@ -167,9 +192,9 @@ pub record Demand1 : Type 0 where
   pub called : (a : State) (q codes : List ℕ) → (response (a .settings) (arrived q) (judged a q) ≡ errorPacket (arrived q) codes) ↔ DrawsOn a (arrived q) codes
   -- the checksum of its bytes is wrong where the last is not the sum of every earlier one
   pub wrongSum : (q : List ℕ) → (arrived q .right ≡ false) ↔ (getD q (6 + payloadLength q) 0 ≡ checksum (take (6 + payloadLength q) q) → ⊥)
-  -- a packet with no fault is answered by a write or a read response
+  -- a packet with no fault is accepted: it draws the response of its kind and changes what its kind changes, no more
   pub good : (a : State) (q : List ℕ) → ((codes : List ℕ) → DrawsOn a (arrived q) codes → ⊥)
-      → let r = response (a .settings) (arrived q) (judged a q) in (typeOf r ≡ writeResponse) ⊎ (typeOf r ≡ readResponse)
+      → Accepted a q (response (a .settings) (arrived q) (judged a q)) (next a q)
   -- "and leaves all settings as they stood"; no transfer is left open
   pub leaves : (a : State) (q codes : List ℕ) → DrawsOn a (arrived q) codes → next a q ≡ from (a .settings)
   -- so on the call, whatever the controller: an answer that begins with the error type is that error packet,
