@@ -48,12 +48,12 @@ done-answer s p c h =
     let e : cmd1Of p ≡ cmd1For c = unfold judged in judgements.done-cmd1 (arrived p) c (unfold judged in h) in
     rw (h, e)
 
--- A command that is carried out leaves the states that are not the park state,
-pub others-stay : (s : States) (p : List ℕ) (c : Command) → judged p ≡ Done c → OthersStay s (next s p)
-unfolding next
-others-stay s p c h = rw h (record { sequence = refl; eeprom = refl; flash = refl; lit = refl })
+-- However a packet is judged, the states that are not the park state stay,
+pub others-stay : (s : States) (j : Judgement) → OthersStay s (statesAfter s j)
+others-stay s (Failed f) = record { sequence = refl; eeprom = refl; flash = refl; lit = refl }
+others-stay s (Done c) = record { sequence = refl; eeprom = refl; flash = refl; lit = refl }
 
--- and one that neither parks nor unparks leaves every state.
+-- and a command that neither parks nor unparks leaves every state.
 command-leaves : (s : States) (c : Command) → (c ≡ ParkDmd → ⊥) → (c ≡ UnparkDmd → ⊥) → statesAfter s (Done c) ≡ s
 command-leaves s ParkDmd h k = absurd (h refl)
 command-leaves s UnparkDmd h k = absurd (k refl)

@@ -16,12 +16,12 @@ use Rattle.packet.proofs.StreamLaws.{IsPacket, packets-nil, packets-cons}
 use Rattle.dlpc200.specs.Packet.{readResp, packetOf}
 use Rattle.dlpc200.specs.States.{parkAfter, inRange}
 use Rattle.dlpc200.specs.Status.{noFaults, faultsHeld}
-use Rattle.dlpc200.specs.Playing.{answerTo, responses, after}
+use Rattle.dlpc200.specs.Playing.{judged, answerTo, next, responses, after}
 use Rattle.dlpc200.specs.Receiver.{receiving}
 use Rattle.dlpc200.specs.Device.{deviceWith, inRule}
-use Rattle.dlpc200.specs.Endpoint.{responseIn, After, answered, receiveCall}
+use Rattle.dlpc200.specs.Endpoint.{judgedIn, responseIn, After, answered, receiveCall}
 use Rattle.dlpc200.specs.Sending.{serves, Ready, Boundary}
-use Rattle.dlpc200.specs.Request1.{UnknownCommand, ReadAfter, OutOfRange, Request1}
+use Rattle.dlpc200.specs.Request1.{UnknownCommand, ReadAfter, OthersStay, OutOfRange, Request1}
 use Rattle.dlpc200.specs.declared.table.Command.{Command}
 use Rattle.dlpc200.specs.declared.table.Command.the-variants.{ParkDmd, UnparkDmd}
 use Rattle.dlpc200.specs.declared.states.States.{States}
@@ -59,7 +59,7 @@ begins-so s h =
       received = refl;
     }
 
--- A call on a device of any values: what it leaves where it completes no packet, and its output where it completes one.
+-- A call on a device of any values: what it leaves where it completes no packet, the states that it never changes, and its output where it completes a packet.
 module _ (d : Device) (input out : List ℕ) where
   abbrev received : Received
   received = receiving (d .receiver) input
@@ -77,6 +77,14 @@ module _ (d : Device) (input out : List ℕ) where
 
       answers : {P : Type 0} {k m : ℕ} → Answers k m ≡ Waits n → P
       answers h = let z : _≡_ {A = ℕ} 0 1 = cc in absurd (omega arith)
+
+  others-kept : OthersStay (d .states) (receiveCall d input out .device .states)
+  unfolding receiveCall
+  others-kept =
+      let P : After → Type 0 = λ x. OthersStay (d .states) (x .device .states) in
+      let same : OthersStay (d .states) (d .states) = record { sequence = refl; eeprom = refl; flash = refl; lit = refl } in
+      cond-cases P (ltb (length out) 64) (λ _. same)
+      (λ _. cond-cases P (inRule d) (λ _. cond-cases P (received .complete) (λ _. others-stay (d .states) (judgedIn received)) (λ _. same)) (λ _. same))
 
   answers-by : (n m : ℕ) → receiveCall d input out .answer ≡ Answers n m → receiveCall d input out ≡ answered (d .states) received out
   unfolding receiveCall
@@ -123,7 +131,8 @@ request-1 =
       faults = λ s p f h. faults-counted s p ∙ ap faultsHeld (sym (hold-same p f h));
       parked = told ParkDmd 1 (λ n. refl);
       unparked = told UnparkDmd 0 (λ n. refl);
-      others = others-stay;
+      others = λ s p. unfold next in others-stay s (judged p);
+      kept = others-kept;
       reads = reads-leave;
       begins = begins-so;
       sum = sum-begins;

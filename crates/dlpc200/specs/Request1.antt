@@ -161,8 +161,10 @@ pub record Request1 : Type 0 where
   -- "Park sets what 0015 reads and unpark clears it"
   pub parked : ReadAfter ParkDmd 1
   pub unparked : ReadAfter UnparkDmd 0
-  -- "the other states are bytes the host supplies": a command that is carried out leaves them, and one that is neither park nor unpark leaves the park state too
-  pub others : (s : States) (p : List ℕ) (c : Command) → judged p ≡ Done c → OthersStay s (next s p)
+  -- "the other states are bytes the host supplies": no packet changes them, and no call, whatever the device;
+  pub others : (s : States) (p : List ℕ) → OthersStay s (next s p)
+  pub kept : (d : Device) (input out : List ℕ) → OthersStay (d .states) (receiveCall d input out .device .states)
+  -- a command that is carried out and is neither park nor unpark leaves the park state too
   pub reads : (s : States) (p : List ℕ) (c : Command) → judged p ≡ Done c → (c ≡ ParkDmd → ⊥) → (c ≡ UnparkDmd → ⊥) → next s p ≡ s
   -- "in their sections' ranges": a device made with such states is one of those
   pub begins : (s : States) → (OutOfRange s → ⊥) → Boundary (deviceWith s)
