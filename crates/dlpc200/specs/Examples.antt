@@ -117,6 +117,7 @@ examples =
     ∷ AnswersWith faulty (park ++ getEeprom) (statusWritten 0x00 0x00 0x02 ++ told 0x01 0x04)
     ∷ AnswersWith faulty (unpark ++ getSequence) (statusWritten 0x00 0x00 0x02 ++ told 0x01 0x04)
     ∷ AnswersWith parked (unpark ++ getFlash) (statusWritten 0x00 0x00 0x02 ++ told 0x05 0x08)
+    ∷ Answers (park ++ getLit) (statusWritten 0x00 0x00 0x02 ++ told 0x01 0x04)
     ∷ AnswersWith faulty (park ++ getLit) (statusWritten 0x00 0x00 0x02 ++ told 0x00 0x03)
     ∷ Leaves park 1
     ∷ Leaves (park ++ unpark) 0
