@@ -17,7 +17,7 @@ use Rattle.dlpc200.specs.declared.judgement.Judgement.the-variants.{Fail
 use Rattle.dlpc200.specs.declared.states.States.{States}
 use Rattle.dlpc200.proofs.judgement.Laws as judgements
 use Rattle.dlpc200.specs.Playing.{judged, answerTo, next, responses, after}
-use Rattle.dlpc200.specs.Request1.{AllFail, NoneParks}
+use Rattle.dlpc200.specs.Request1.{AllFail, NoneParks, OthersStay}
 
 -- A failed packet leaves every state, and packets that all fail do.
 
@@ -48,17 +48,30 @@ done-answer s p c h =
     let e : cmd1Of p ≡ cmd1For c = unfold judged in judgements.done-cmd1 (arrived p) c (unfold judged in h) in
     rw (h, e)
 
+-- However a packet is judged, the states that are not the park state stay,
+pub others-stay : (s : States) (j : Judgement) → OthersStay s (statesAfter s j)
+others-stay s (Failed f) = record { sequence = refl; eeprom = refl; flash = refl; lit = refl }
+others-stay s (Done c) = record { sequence = refl; eeprom = refl; flash = refl; lit = refl }
+
+-- and a command that neither parks nor unparks leaves every state.
+command-leaves : (s : States) (c : Command) → (c ≡ ParkDmd → ⊥) → (c ≡ UnparkDmd → ⊥) → statesAfter s (Done c) ≡ s
+command-leaves s ParkDmd h k = absurd (h refl)
+command-leaves s UnparkDmd h k = absurd (k refl)
+command-leaves s GetDmdSoftwareParkState h k = refl
+command-leaves s GetSeqRunState h k = refl
+command-leaves s GetEepromFault h k = refl
+command-leaves s GetInitFromParallelFlashFail h k = refl
+command-leaves s GetOverallLedLampLitState h k = refl
+
+pub reads-leave : (s : States) (p : List ℕ) (c : Command) → judged p ≡ Done c → (c ≡ ParkDmd → ⊥) → (c ≡ UnparkDmd → ⊥) → next s p ≡ s
+unfolding next
+reads-leave s p c e h k = ap (statesAfter s) e ∙ command-leaves s c h k
+
 -- What neither parks nor unparks leaves the park state.
 
 park-kept : (s : States) (j : Judgement) → (j ≡ Done ParkDmd → ⊥) → (j ≡ Done UnparkDmd → ⊥) → statesAfter s j .park ≡ s .park
 park-kept s (Failed f) h k = refl
-park-kept s (Done ParkDmd) h k = absurd (h refl)
-park-kept s (Done UnparkDmd) h k = absurd (k refl)
-park-kept s (Done GetDmdSoftwareParkState) h k = refl
-park-kept s (Done GetSeqRunState) h k = refl
-park-kept s (Done GetEepromFault) h k = refl
-park-kept s (Done GetInitFromParallelFlashFail) h k = refl
-park-kept s (Done GetOverallLedLampLitState) h k = refl
+park-kept s (Done c) h k = ap (λ (a : States). a .park) (command-leaves s c (λ e. h (ap Done e)) (λ e. k (ap Done e)))
 
 parks-kept : (s : States) (ps : List (List ℕ)) → NoneParks ps → after s ps .park ≡ s .park
 unfolding after next

@@ -13,6 +13,8 @@ use Rattle.dlpc200.specs.Playing.{responses, after}
 pub data Example : Type 0 where
   -- bytes, and all that the device answers
   Answers : List ℕ → List ℕ → Example
+  -- the same of a device with other states
+  AnswersWith : States → List ℕ → List ℕ → Example
   -- bytes, and the park state after them
   Leaves : List ℕ → ℕ → Example
   -- the data of a write, and the two status bytes that it draws
@@ -23,6 +25,13 @@ pub data Example : Type 0 where
 -- a device that runs a sequence, after flash initialization failed in the requested solution, with its LEDs lit
 abbrev pub states : States
 states = record { park = 0; sequence = 1; eeprom = 0; flash = 7; lit = 1 }
+
+-- two more sets of states: over the three each state is told from every other, and from one that never changes
+abbrev pub parked : States
+parked = record { park = 1; sequence = 0; eeprom = 0; flash = 5; lit = 1 }
+
+abbrev pub faulty : States
+faulty = record { park = 1; sequence = 1; eeprom = 1; flash = 3; lit = 0 }
 
 -- a write response and a read response of two status bytes, and their checksum
 abbrev pub statusWritten : ℕ → ℕ → ℕ → List ℕ
@@ -35,20 +44,22 @@ statusRead d0 d1 check = 0x05 ∷ 0xAA ∷ 0x00 ∷ 0x00 ∷ 0x02 ∷ 0x00 ∷ d
 abbrev pub told : ℕ → ℕ → List ℕ
 told v check = 0x05 ∷ 0xAA ∷ 0x00 ∷ 0x00 ∷ 0x03 ∷ 0x00 ∷ 0x00 ∷ 0x00 ∷ v ∷ check ∷ []
 
--- all that a device in these states answers to some bytes
-unfoldable pub answers : List ℕ → List ℕ
-answers b = joined (responses states (packets b))
+-- all that a device with these states answers to some bytes
+unfoldable pub answers : States → List ℕ → List ℕ
+answers s b = joined (responses s (packets b))
 
 -- what the rules give for an example, and what it expects of them: bytes, a park state or a count
 
 unfoldable pub given : Example → List ℕ
-given (Answers b r) = answers b
+given (Answers b r) = answers states b
+given (AnswersWith s b r) = answers s b
 given (Leaves b v) = after states (packets b) .park ∷ []
-given (Draws d d0 d1) = answers (packetOf write d)
+given (Draws d d0 d1) = answers states (packetOf write d)
 given (Counts d0 d1 n) = faultBits d0 d1 ∷ []
 
 unfoldable pub expected : Example → List ℕ
 expected (Answers b r) = r
+expected (AnswersWith s b r) = r
 expected (Leaves b v) = v ∷ []
 expected (Draws d d0 d1) = statusWritten d0 d1 ((2 + d0 + d1) % 256)
 expected (Counts d0 d1 n) = n ∷ []
@@ -88,9 +99,26 @@ examples =
     ∷ Answers getEeprom (told 0x00 0x03)
     ∷ Answers getFlash (told 0x07 0x0A)
     ∷ Answers getLit (told 0x01 0x04)
+    ∷ AnswersWith parked getPark (told 0x01 0x04)
+    ∷ AnswersWith parked getSequence (told 0x00 0x03)
+    ∷ AnswersWith parked getEeprom (told 0x00 0x03)
+    ∷ AnswersWith parked getFlash (told 0x05 0x08)
+    ∷ AnswersWith parked getLit (told 0x01 0x04)
+    ∷ AnswersWith faulty getPark (told 0x01 0x04)
+    ∷ AnswersWith faulty getSequence (told 0x01 0x04)
+    ∷ AnswersWith faulty getEeprom (told 0x01 0x04)
+    ∷ AnswersWith faulty getFlash (told 0x03 0x06)
+    ∷ AnswersWith faulty getLit (told 0x00 0x03)
     -- sections 6.6, 6.7: park sets what 0015 reads, and unpark clears it
     ∷ Answers (park ++ getPark) (statusWritten 0x00 0x00 0x02 ++ told 0x01 0x04)
     ∷ Answers (park ++ unpark ++ getPark) (statusWritten 0x00 0x00 0x02 ++ statusWritten 0x00 0x00 0x02 ++ told 0x00 0x03)
+    -- the other states stay, set or not
+    ∷ Answers (park ++ getEeprom) (statusWritten 0x00 0x00 0x02 ++ told 0x00 0x03)
+    ∷ AnswersWith faulty (park ++ getEeprom) (statusWritten 0x00 0x00 0x02 ++ told 0x01 0x04)
+    ∷ AnswersWith faulty (unpark ++ getSequence) (statusWritten 0x00 0x00 0x02 ++ told 0x01 0x04)
+    ∷ AnswersWith parked (unpark ++ getFlash) (statusWritten 0x00 0x00 0x02 ++ told 0x05 0x08)
+    ∷ Answers (park ++ getLit) (statusWritten 0x00 0x00 0x02 ++ told 0x01 0x04)
+    ∷ AnswersWith faulty (park ++ getLit) (statusWritten 0x00 0x00 0x02 ++ told 0x00 0x03)
     ∷ Leaves park 1
     ∷ Leaves (park ++ unpark) 0
     ∷ Leaves (park ++ getPark) 1

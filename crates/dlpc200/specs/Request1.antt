@@ -5,7 +5,7 @@ use mathlib.Core.Path.{_≡_}
 use mathlib.Core.Logic.{_↔_}
 use mathlib.Core.Bool.{true, cond}
 use mathlib.Core.List.{List, [], _∷_, _++_}
-use lib.ListN.{length, getD, take}
+use lib.ListN.{length, getD, take, drop}
 use Rattle.packet.specs.Answer.{Refuses, Waits, Answers, Answering}
 use Rattle.packet.specs.Calls.{Served}
 use Rattle.packet.specs.Packet.{payloadLength, payload}
@@ -97,6 +97,13 @@ ReadAfter c v =
     → judged q ≡ Done GetDmdSoftwareParkState
     → getD (sentTo d s .given) (length (before ++ (p ∷ between))) [] ≡ packetOf readResp (0x00 ∷ 0x00 ∷ v ∷ [])
 
+-- the states t are s but for the park state
+pub record OthersStay (s t : States) : Type 0 where
+  pub sequence : t .sequence ≡ s .sequence
+  pub eeprom : t .eeprom ≡ s .eeprom
+  pub flash : t .flash ≡ s .flash
+  pub lit : t .lit ≡ s .lit
+
 -- The sum.
 
 abbrev pub withSum : Device → ℕ → Device
@@ -154,7 +161,12 @@ pub record Request1 : Type 0 where
   -- "Park sets what 0015 reads and unpark clears it"
   pub parked : ReadAfter ParkDmd 1
   pub unparked : ReadAfter UnparkDmd 0
-  -- "the other states are bytes the host supplies, in their sections' ranges": a device made with such states is one of those
+  -- "the other states are bytes the host supplies": no packet changes them, and no call, whatever the device;
+  pub others : (s : States) (p : List ℕ) → OthersStay s (next s p)
+  pub kept : (d : Device) (input out : List ℕ) → OthersStay (d .states) (receiveCall d input out .device .states)
+  -- a command that is carried out and is neither park nor unpark leaves the park state too
+  pub reads : (s : States) (p : List ℕ) (c : Command) → judged p ≡ Done c → (c ≡ ParkDmd → ⊥) → (c ≡ UnparkDmd → ⊥) → next s p ≡ s
+  -- "in their sections' ranges": a device made with such states is one of those
   pub begins : (s : States) → (OutOfRange s → ⊥) → Boundary (deviceWith s)
   -- "checksum over everything after CMD4": with up to four bytes received nothing is summed yet, and the sum begins anew with the first byte after CMD4. To a call
   -- that takes that byte it does not matter what stood in the sum.
@@ -164,6 +176,13 @@ pub record Request1 : Type 0 where
       → d .receiver .received ≤ afterCmd4
       → afterCmd4 < d .receiver .received + length b
       → receiveCall (withSum d n) b out ≡ receiveCall d b out
+  -- "waiting": a call that completes no packet leaves the output and the states, whatever the device
+  pub waits : (d : Device) (input out : List ℕ) (n : ℕ) → receiveCall d input out .answer ≡ Waits n
+      → (receiveCall d input out .output ≡ out) × (receiveCall d input out .device .states ≡ d .states)
+  -- "answered": the output begins with the response to the packet that arrived, as long as the answer says, and stays as it was behind it, whatever the device
+  pub behind : (d : Device) (input out : List ℕ) (n m : ℕ) → receiveCall d input out .answer ≡ Answers n m
+      → (take m (receiveCall d input out .output) ≡ responseIn (d .states) (receiving (d .receiver) input))
+      × (drop m (receiveCall d input out .output) ≡ drop m out)
   -- "calls keep 1, then 3"; else "waiting", all bytes taken, or "answered"
   pub refuses : (d : Device) (input out : List ℕ)
       → let r = receiveCall d input out in
