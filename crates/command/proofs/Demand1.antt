@@ -1,4 +1,4 @@
--- Demand 1: bad packets and bad calls.
+-- Demand 1: bad packets, good packets and bad calls.
 use Prim.Native.Nat.{ℕ, _+_, _<_}
 use mathlib.Core.Path.{_≡_, refl, ap, sym, _∙_}
 use mathlib.Core.Logic.{_↔_, _⊎_, inl, inr}
@@ -9,7 +9,7 @@ use lib.Dec.{eqb, ltb}
 use lib.ListN.{length, take, drop, getD, length-append}
 use lib.Seq.{take-at, drop-at}
 use borrow.Author.Tests.{eq-eqb, ne-eqb, eqb-true, eqb-false}
-use Rattle.packet.specs.Packet.{packetOf, error, hostWrite, hostRead, whole, beginning, intermediate, last, writeResponse, readResponse, typeOf, cmd1Of, cmd2Of, flagsOf, payloadLength, payload, rightSum, checksum, header, sealed}
+use Rattle.packet.specs.Packet.{packetOf, error, hostWrite, hostRead, whole, beginning, intermediate, last, typeOf, cmd1Of, cmd2Of, flagsOf, payloadLength, payload, rightSum, checksum, header, sealed}
 use Rattle.packet.specs.Answer.{Refuses, Waits, Answers}
 use Rattle.packet.specs.Receiver.{Received}
 use Rattle.packet.specs.Stream.{packets}
@@ -73,9 +73,9 @@ module _ (s : Settings) (p : Arrived) where
   response-error : (j : Judgement) (codes : List ℕ) → response s p j ≡ errorPacket p codes → IsError j codes
   unfolding response
   response-error (Error k) codes h = record { type = refl; lists = packet-shows error error (p .cmd1) (p .cmd2) (codesOf k) codes h .1 }
-  response-error (Hold c) codes h = absurd (omega (arith, packet-shows writeResponse error (p .cmd1) (p .cmd2) [] codes h .0))
-  response-error (Write v) codes h = absurd (omega (arith, packet-shows writeResponse error (p .cmd1) (p .cmd2) [] codes h .0))
-  response-error (Read c) codes h = absurd (omega (arith, packet-shows readResponse error (p .cmd1) (p .cmd2) (dataOf c s) codes h .0))
+  response-error (Hold c) codes h = absurd (omega (arith, packet-shows (responseType (Hold c)) error (p .cmd1) (p .cmd2) [] codes h .0))
+  response-error (Write v) codes h = absurd (omega (arith, packet-shows (responseType (Write v)) error (p .cmd1) (p .cmd2) [] codes h .0))
+  response-error (Read c) codes h = absurd (omega (arith, packet-shows (responseType (Read c)) error (p .cmd1) (p .cmd2) (dataOf c s) codes h .0))
 
 -- what an error packet leaves
 error-leaves : (s : Settings) (j : Judgement) → responseType j ≡ error → settingsAfter s j ≡ s
