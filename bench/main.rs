@@ -20,7 +20,7 @@ trait Side {
     fn encode(&mut self, cmd: [u8; 2], out: &mut [u8]) -> usize;
     fn list(&mut self, out: &mut [u8]) -> usize;
     /// The refusal, 0 for accepted.
-    fn report(&mut self, report: &[u8]) -> u8;
+    fn report(&mut self, report: &[u8]) -> u32;
 }
 
 struct Library {
@@ -30,16 +30,23 @@ struct Library {
 
 impl Side for Library {
     fn receive(&mut self, input: &[u8], out: &mut [u8]) -> usize {
-        ffi::receive(&mut self.controller, input, out).taken
+        let (mut taken, mut size) = (0, 0);
+        ffi::receive(&mut self.controller, input, out, &mut taken, &mut size);
+        taken as usize
     }
-    fn encode(&mut self, [cmd1, cmd2]: [u8; 2], out: &mut [u8]) -> usize {
-        ffi::encode(cmd1, cmd2, &self.settings, out).length
+    fn encode(&mut self, cmd: [u8; 2], out: &mut [u8]) -> usize {
+        let mut size = 0;
+        ffi::encode(cmd, &self.settings, out, &mut size);
+        size as usize
     }
     fn list(&mut self, out: &mut [u8]) -> usize {
-        ffi::standard_list(&self.settings, out).length
+        let mut size = 0;
+        ffi::standard_list(&self.settings, out, &mut size);
+        size as usize
     }
-    fn report(&mut self, report: &[u8]) -> u8 {
-        ffi::check_report(report).refusal
+    fn report(&mut self, report: &[u8]) -> u32 {
+        let mut verdict = ffi::UNSET_VERDICT;
+        ffi::check_report(report, &mut verdict)
     }
 }
 
@@ -68,8 +75,8 @@ impl Side for Model {
         model::standard_list(&self.settings, out).unwrap_or(0)
     }
     #[inline(never)]
-    fn report(&mut self, report: &[u8]) -> u8 {
-        model::check_report(report).map_or_else(|no| no.number, |_| 0)
+    fn report(&mut self, report: &[u8]) -> u32 {
+        model::check_report(report).map_or_else(|no| no.number.into(), |_| 0)
     }
 }
 
@@ -416,6 +423,7 @@ macro_rules! depth {
 fn stack_of_receive(input: &[u8], each: usize) -> usize {
     let mut c = ffi::Controller::fresh();
     let mut out = [0u8; 128];
+    let (mut taken, mut size) = (0, 0);
     let mut rest = input;
     let mut deepest = 0;
     while !rest.is_empty() {
@@ -423,10 +431,9 @@ fn stack_of_receive(input: &[u8], each: usize) -> usize {
         let before = c.clone();
         deepest = deepest.max(depth!({
             c.clone_from(&before);
-            ffi::receive(&mut c, given, &mut out)
+            ffi::receive(&mut c, given, &mut out, &mut taken, &mut size)
         }));
-        c = before;
-        rest = &rest[ffi::receive(&mut c, given, &mut out).taken..];
+        rest = &rest[taken as usize..];
     }
     deepest
 }
@@ -435,32 +442,36 @@ fn stack_of_receive(input: &[u8], each: usize) -> usize {
 fn stack_of_refusal() -> usize {
     let mut c = ffi::Controller::fresh();
     let mut out = [0u8; 128];
-    c.registers.settings.mode = 3;
-    depth!(ffi::receive(&mut c, &[2], &mut out))
+    let (mut taken, mut size) = (0, 0);
+    c.settings.mode = 3;
+    depth!(ffi::receive(&mut c, &[2], &mut out, &mut taken, &mut size))
 }
 
 #[inline(never)]
 fn stack_of_list() -> usize {
     let settings = ffi::Settings::from(&model::Settings::FACTORY);
     let mut out = [0u8; 128];
-    depth!(ffi::standard_list(&settings, &mut out))
+    let mut size = 0;
+    depth!(ffi::standard_list(&settings, &mut out, &mut size))
 }
 
 #[inline(never)]
 fn stack_of_encode() -> usize {
     let settings = ffi::Settings::from(&model::Settings::FACTORY);
     let mut out = [0u8; 128];
+    let mut size = 0;
     let mut deepest = 0;
     for command in model::Command::ALL {
-        let [cmd1, cmd2] = command.bytes();
-        deepest = deepest.max(depth!(ffi::encode(cmd1, cmd2, &settings, &mut out)));
+        let cmd = command.bytes();
+        deepest = deepest.max(depth!(ffi::encode(cmd, &settings, &mut out, &mut size)));
     }
     deepest
 }
 
 #[inline(never)]
 fn stack_of_report(report: &[u8]) -> usize {
-    depth!(ffi::check_report(report))
+    let mut verdict = ffi::UNSET_VERDICT;
+    depth!(ffi::check_report(report, &mut verdict))
 }
 
 fn sizes() {
@@ -480,17 +491,15 @@ fn sizes() {
     .max()
     .unwrap();
     let report = stack_of_report(&report_of_small()).max(stack_of_report(&report_of_large()));
+    let controller = std::mem::size_of::<ffi::Controller>();
     println!("| what | bytes | at most |");
     println!("|---|---|---|");
-    println!(
-        "| controller | {} | 2,200 |",
-        std::mem::size_of::<ffi::Controller>()
-    );
-    println!("| stack of receive | {receive} | 4,096 |");
+    println!("| controller | {controller} | 2,200 |");
+    println!("| stack of receive | {receive} | 2,048 |");
     println!("| stack of encode | {} | |", stack_of_encode());
     println!("| stack of the standard list | {} | |", stack_of_list());
     println!("| stack of the report checker | {report} | |");
-    if std::mem::size_of::<ffi::Controller>() > 2200 || receive > 4096 {
+    if controller > 2200 || receive > 2048 {
         println!("\nToo large.");
         std::process::exit(1);
     }

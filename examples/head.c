@@ -2,13 +2,17 @@
 #include "imjarlet.h"
 
 int main(void) {
-    imjarlet_controller head = head_fresh();
-    imjarlet_settings wanted = head.registers.settings;
+    imjarlet_controller head;
+    imjarlet_size taken, size;
     uint8_t packet[64], response[64];
+    imjarlet_reset(&head);
+    imjarlet_settings wanted = head.settings;
     wanted.current.red.counts = 300;
-    imjarlet_emitted e = head_encode(0x01, 0x04, wanted, packet, sizeof packet);
-    imjarlet_receipt r = head_receive(&head, packet, e.length, response, sizeof response);
-    printf("refusal %d, %zu bytes taken, response type %02x, red %d counts\n",
-           r.refusal, r.taken, response[0], head.registers.settings.current.red.counts);
-    return r.refusal;
+    uint32_t refusal = imjarlet_encode(0x01, 0x04, &wanted, packet, sizeof packet, &size);
+    if (refusal == IMJARLET_ACCEPTED)
+        refusal = imjarlet_receive(&head, packet, size, response, sizeof response, &taken, &size);
+    if (refusal == IMJARLET_ACCEPTED && size > 0)
+        printf("%d bytes taken, %d of response, type %02x, red %d counts\n",
+               (int)taken, (int)size, response[0], head.settings.current.red.counts);
+    return (int)refusal;
 }

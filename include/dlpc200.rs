@@ -24,25 +24,19 @@ pub struct States {
     pub lit: u8,
 }
 
-/// What has come in of the current packet.
-#[repr(C)]
-#[derive(Clone, Copy, PartialEq, Eq, Debug)]
-pub struct Receiver {
-    /// CMD1, CMD2, CMD3, CMD4, Len_LSB, Len_MSB
-    pub header: [u8; 6],
-    /// Data[0], Data[1]
-    pub id: [u8; 2],
-    /// of the bytes after CMD4, begun anew with the first of them
-    pub sum: u8,
-    /// bytes of the current packet
-    pub received: usize,
-}
-
+/// What has come in of the current packet, and the states.
 #[repr(C)]
 #[derive(Clone, Copy, PartialEq, Eq, Debug)]
 pub struct Device {
+    /// bytes of the current packet
+    pub received: u32,
+    /// CMD1, CMD2, CMD3, CMD4, Len_LSB, Len_MSB
+    pub header: [u8; 6],
+    /// Data[0] to Data[3]
+    pub hold: [u8; 4],
+    /// of the bytes after CMD4, begun anew with the first of them
+    pub sum: u8,
     pub states: States,
-    pub receiver: Receiver,
 }
 
 /// What a call answers.
@@ -53,58 +47,40 @@ pub enum Answer {
     /// One packet is complete, and its response stands at the output's start.
     Answered { taken: usize, length: usize },
     /// Refusal 1 (output under 64 bytes) or 3 (device out of rule); nothing was taken or changed.
-    Refused(u8),
+    Refused(u32),
 }
 
-#[repr(C)]
-struct Reply {
-    kind: u8,
-    number: u8,
-    taken: usize,
-    size: usize,
-}
-
-#[repr(C)]
-struct Stepped {
-    device: Device,
-    reply: Reply,
-}
-
-mod calls {
-    use super::{Device, Reply, States, Stepped};
-    // A slice goes as a pointer and then a length.
+/// The library's functions. A slice goes as a pointer and then a length.
+pub mod calls {
+    use super::{Device, States};
     unsafe extern "C" {
-        pub safe fn dlpc200_device(states: States) -> Device;
-        pub fn dlpc200_receive(device: &mut Device, input: *const u8, input_length: usize, out: *mut u8, out_length: usize) -> Reply;
-        pub fn dlpc200_step(device: Device, input: *const u8, input_length: usize, out: *mut u8, out_length: usize) -> Stepped;
+        pub fn dlpc200_reset(device: *mut Device, states: *const States) -> u32;
+        pub fn dlpc200_receive(device: *mut Device, input: *const u8, input_length: u64, out: *mut u8, out_length: u64, taken: *mut u64, size: *mut u64) -> u32;
         pub safe fn dlpc200_faults(data0: u8, data1: u8) -> u32;
-    }
-}
-
-fn answer(reply: Reply) -> Answer {
-    match reply.kind {
-        0 => Answer::Waiting { taken: reply.taken },
-        1 => Answer::Answered { taken: reply.taken, length: reply.size },
-        _ => Answer::Refused(reply.number),
     }
 }
 
 impl Device {
     /// A device between two packets.
     pub fn new(states: States) -> Device {
-        calls::dlpc200_device(states)
+        let mut device = core::mem::MaybeUninit::uninit();
+        // The library writes every field, and reads none.
+        unsafe {
+            calls::dlpc200_reset(device.as_mut_ptr(), &states);
+            device.assume_init()
+        }
     }
 
     /// Takes bytes until the input ends or one packet is complete.
     pub fn receive(&mut self, input: &[u8], out: &mut [u8]) -> Answer {
-        // The library reads input_length bytes at input and writes within out_length bytes at out.
-        answer(unsafe { calls::dlpc200_receive(self, input.as_ptr(), input.len(), out.as_mut_ptr(), out.len()) })
-    }
-
-    /// The same with the device by value.
-    pub fn step(self, input: &[u8], out: &mut [u8]) -> (Device, Answer) {
-        let stepped = unsafe { calls::dlpc200_step(self, input.as_ptr(), input.len(), out.as_mut_ptr(), out.len()) };
-        (stepped.device, answer(stepped.reply))
+        let (mut taken, mut size) = (0, 0);
+        // The library reads within input_length bytes at input and writes within out_length bytes at out.
+        let refusal = unsafe { calls::dlpc200_receive(self, input.as_ptr(), input.len() as u64, out.as_mut_ptr(), out.len() as u64, &mut taken, &mut size) };
+        match (refusal, size) {
+            (0, 0) => Answer::Waiting { taken: taken as usize },
+            (0, _) => Answer::Answered { taken: taken as usize, length: size as usize },
+            _ => Answer::Refused(refusal),
+        }
     }
 }
 

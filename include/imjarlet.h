@@ -1,27 +1,37 @@
 /*
  * Imjarlet: the command endpoint of a projector head, and the checker of tuning reports, for C.
  *
- * Link with libimjarlet.a, which `rt staticlib imjarlet` writes to target/staticlib. The archive holds
- * x86-64 code for Linux and the sizes and offsets below are those of that target; README.md says
- * what firmware on another processor can take. C99 or later.
+ * Link with target/staticlib/libimjarlet.a on the machine itself, which `rt staticlib imjarlet` writes,
+ * or for firmware with target/firmware/TARGET/libimjarlet.a, which `scripts/firmware TARGET` makes.
+ * Firmware supplies memcpy, memmove and memset; the library calls nothing else. C99 or later.
+ *
+ * Sizes and offsets are the same on every target, and no type has padding: that is why setting.rotate,
+ * video.led, sequence.led and run are wider than their values (each takes the room up to the next field,
+ * or to the end), and why a length has 64 bits also where a pointer has 32. A value over 255 in such a
+ * field is refused like any other that is not allowed.
  *
  * Bytes are hexadecimal in the comments (01 04); numbers are decimal. No call allocates, keeps a
  * pointer or has state of its own: two calls on two controllers may run at the same time.
  *
  * What the caller owes a call: a pointer with a length is valid for that many bytes, and may be
- * NULL only where the length is 0; a pointer to a controller is valid and aligned; and the
- * controller, the input and the output of one call do not overlap. Nothing is owed of the bytes
+ * NULL only where the length is 0; any other pointer is valid and aligned for its type; and what a
+ * call may write (no const) overlaps nothing else that it is lent. Nothing is owed of the bytes
  * themselves, those of a controller and of settings included: the calls answer on all.
+ *
+ * A call returns 0 or the number of its refusal. In either case it sets all of *taken, *size and
+ * *verdict, whatever stood there.
  */
 #ifndef IMJARLET_H
 #define IMJARLET_H
 
-#include <stddef.h>
 #include <stdint.h>
 
 #ifdef __cplusplus
 extern "C" {
 #endif
+
+/* Lengths, sizes and the other numbers that a call gives. */
+typedef uint64_t imjarlet_size;
 
 /* Sizes, in bytes. */
 enum {
@@ -113,7 +123,7 @@ typedef struct {
 typedef struct {
     uint8_t long_flip;
     uint8_t short_flip;
-    uint8_t rotate;
+    uint16_t rotate;
 } imjarlet_display_setting;
 
 /* 02 00: X and Y a listed pair, the others any. */
@@ -130,7 +140,7 @@ typedef struct {
 typedef struct {
     uint8_t rate;
     uint8_t depth;
-    uint8_t led;
+    uint16_t led;
 } imjarlet_video_mode;
 
 /*
@@ -145,7 +155,7 @@ typedef struct {
     imjarlet_microseconds delay;
     imjarlet_microseconds period;
     imjarlet_microseconds exposure;
-    uint8_t led;
+    uint32_t led;
 } imjarlet_pattern_sequence;
 
 /* The values of every command. */
@@ -158,101 +168,82 @@ typedef struct {
     imjarlet_video_input input;         /* 02 00 */
     imjarlet_video_mode video;          /* 02 01 */
     imjarlet_pattern_sequence sequence; /* 04 00 */
-    uint8_t run;                        /* 04 02 sequence run: 0, or 1 in display mode 4 */
+    uint32_t run;                       /* 04 02 sequence run: 0, or 1 in display mode 4 */
 } imjarlet_settings;
 
-/* The open transfer: its command and how many bytes of it are held. None is open where active is 0. */
+/*
+ * The packet that is coming in and the open transfer. No transfer is open where active is 0; otherwise
+ * it is one of the command cmd1 cmd2.
+ */
 typedef struct {
+    uint32_t received; /* how many bytes of the packet have come in */
+    uint16_t held;     /* how many bytes of the transfer are held */
     uint8_t active;
     uint8_t cmd1;
     uint8_t cmd2;
-    size_t held;
-} imjarlet_transfer;
-
-/* All of a head but its two arrays. */
-typedef struct {
-    imjarlet_settings settings;
-    imjarlet_transfer transfer;
-    uint8_t header[6]; /* of the packet that is coming in; between two packets, of the last one */
-    uint8_t sum;       /* of its bytes so far, modulo 256; it begins anew with a packet's first byte */
-    size_t received;   /* how many bytes of it have come in */
+    uint8_t header[6]; /* of the packet; between two packets, of the last one */
+    uint8_t sum;       /* of the packet's bytes so far, modulo 256; it begins anew with its first byte */
 } imjarlet_registers;
 
 /*
- * A head: 2,136 bytes that the caller owns and lends. Settings may be read at any time; bytes that
+ * A head: 2,120 bytes that the caller owns and lends. Settings may be read at any time; bytes that
  * other code has written there draw refusal 3 where they are out of rule.
  */
 typedef struct {
+    imjarlet_settings settings;
     imjarlet_registers registers;
     uint8_t buffer[IMJARLET_HOLD]; /* the held bytes of the open transfer */
     uint8_t hold[IMJARLET_HOLD];   /* the payload of the packet that is coming in, as far as there is room */
 } imjarlet_controller;
 
 /*
- * What a receive call answers.
- *   refusal 0, complete 0   waiting: the input ended, all of it was taken, the output is untouched
- *   refusal 0, complete 1   answered: one packet is complete; `taken` bytes of the input were taken and
- *                           its response is the first `length` bytes of the output
- *   refusal 1 or 3          refused: complete, taken and length are 0
+ * What is said of a report.
+ *   accepted   the trial named (from 0), its score and its end settings; place is 0
+ *   refused    place is where; trial and score are 0 and the settings the factory values
  */
 typedef struct {
-    uint8_t refusal;
-    uint8_t complete;
-    size_t taken;
-    size_t length;
-} imjarlet_receipt;
-
-/* What the encoder and the standard list answer: refusal 0 and the length written, or a refusal and 0. */
-typedef struct {
-    uint8_t refusal;
-    size_t length;
-} imjarlet_emitted;
-
-/*
- * The answer to a report.
- *   refusal 0          accepted: the trial named (from 0), its score and its end settings; place is 0
- *   refusal 10 to 20   refused, at `place`; trial and score are 0 and the settings the factory values
- */
-typedef struct {
-    uint8_t refusal;
-    size_t place;
-    size_t trial;
-    size_t score;
+    imjarlet_size place;
+    imjarlet_size trial;
+    imjarlet_size score;
     imjarlet_settings settings;
 } imjarlet_verdict;
 
-/* A head at power-up: factory values, nothing half received and no transfer open. */
-imjarlet_controller head_fresh(void);
-
-/* Makes *c a head at power-up, whatever stood there. */
-void head_reset(imjarlet_controller *c);
+/* Makes *c a head at power-up: factory values, nothing half received, no transfer open. Returns 0. */
+uint32_t imjarlet_reset(imjarlet_controller *c);
 
 /*
  * Takes bytes of the input until it ends or one packet is complete, and carries that packet out. Call
- * it again with the bytes behind those that were taken. Refusals 1 and 3.
+ * it again with the bytes behind those that were taken. Refusals 1 and 3, tested in this order.
+ *   0, *size is 0    waiting: the input ended before a packet did, *taken is all of it, and the output
+ *                    is untouched
+ *   0, otherwise     answered: *taken bytes of the input were taken, and the response is the first *size
+ *                    bytes (7 or more) of the output, the rest of which is untouched
+ *   1 or 3           refused: *taken and *size are 0
  */
-imjarlet_receipt head_receive(imjarlet_controller *c, const uint8_t *input, size_t input_length,
-                              uint8_t *out, size_t out_length);
+uint32_t imjarlet_receive(imjarlet_controller *c, const uint8_t *input, imjarlet_size input_length,
+                          uint8_t *out, imjarlet_size out_length, imjarlet_size *taken, imjarlet_size *size);
 
 /*
- * The whole-packet write of what `settings` has for the command CMD1 CMD2, at the output's start; the
- * rest of the output is untouched, and no other part of `settings` is looked at. Run 1 is allowed in
- * any display mode here. Refusals 1 and 2, tested in this order.
+ * The whole-packet write of what *settings has for the command CMD1 CMD2, at the output's start, *size
+ * bytes long; the rest of the output is untouched, and no other part of *settings is looked at. Run 1
+ * is allowed in any display mode here. Refusals 1 and 2, tested in this order; *size is then 0.
  */
-imjarlet_emitted head_encode(uint8_t cmd1, uint8_t cmd2, imjarlet_settings settings,
-                             uint8_t *out, size_t out_length);
+uint32_t imjarlet_encode(uint8_t cmd1, uint8_t cmd2, const imjarlet_settings *settings,
+                         uint8_t *out, imjarlet_size out_length, imjarlet_size *size);
 
 /*
- * The standard shipping list, at the output's start: one whole-packet write for each command, which
- * bring a head at factory values to these settings. Refusals 1 and 3, tested in this order.
+ * The standard shipping list, at the output's start, *size bytes long: one whole-packet write for each
+ * command, which bring a head at factory values to these settings. Refusals 1 and 3, tested in this
+ * order; *size is then 0.
  */
-imjarlet_emitted head_standard_list(imjarlet_settings settings, uint8_t *out, size_t out_length);
+uint32_t imjarlet_standard_list(const imjarlet_settings *settings,
+                                uint8_t *out, imjarlet_size out_length, imjarlet_size *size);
 
 /*
- * Whether the settings that a tuning report ships are those that its best trial ended with.
- * Refusals 10 to 20.
+ * Whether the settings that a tuning report ships are those that its best trial ended with. Refusals
+ * 10 to 20.
  */
-imjarlet_verdict head_check_report(const uint8_t *report, size_t report_length);
+uint32_t imjarlet_check_report(const uint8_t *report, imjarlet_size report_length, imjarlet_verdict *verdict);
 
 #ifdef __cplusplus
 }

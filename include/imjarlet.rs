@@ -1,9 +1,14 @@
 //! Imjarlet: the command endpoint of a projector head, and the checker of tuning reports, as safe
-//! Rust over the static library libimjarlet.a, which `rt staticlib imjarlet` writes to target/staticlib.
+//! Rust over the static library libimjarlet.a.
 //!
-//! The archive holds x86-64 code for Linux (README.md). A program takes this file in by
-//! `#[path = "include/imjarlet.rs"] mod imjarlet;` and links by `-L target/staticlib -l static=imjarlet`.
+//! A program takes this file in by `#[path = "include/imjarlet.rs"] mod imjarlet;` and links by
+//! `-l static=imjarlet`, with `-L target/staticlib` on the machine itself (`rt staticlib imjarlet` writes
+//! the library there) or `-L target/firmware/TARGET` for firmware (`scripts/firmware TARGET` makes it).
 //! It needs nothing but `core`. Bytes are hexadecimal in the comments (01 04); numbers are decimal.
+//!
+//! Sizes and offsets are the same on every target, and no type has padding: that is why some fields are
+//! wider than their values. A value over 255 in such a field is refused like any other that is not
+//! allowed.
 #![allow(dead_code)]
 
 /// The shortest output that a receive call or the encoder takes.
@@ -52,7 +57,7 @@ pub struct StaticColour {
 pub struct DisplaySetting {
     pub long_flip: u8,
     pub short_flip: u8,
-    pub rotate: u8,
+    pub rotate: u16,
 }
 
 /// 02 00: X and Y a listed pair, the others any.
@@ -73,7 +78,7 @@ pub struct VideoInput {
 pub struct VideoMode {
     pub rate: u8,
     pub depth: u8,
-    pub led: u8,
+    pub led: u16,
 }
 
 /// 04 00: depth 1 to 8; count 1 to 96; inversion 0 to 2, nonzero only at depth 1; trigger 0 to 6, 6
@@ -88,7 +93,7 @@ pub struct PatternSequence {
     pub delay: Microseconds,
     pub period: Microseconds,
     pub exposure: Microseconds,
-    pub led: u8,
+    pub led: u32,
 }
 
 /// The values of every command.
@@ -112,38 +117,32 @@ pub struct Settings {
     /// 04 00
     pub sequence: PatternSequence,
     /// 04 02 sequence run: 0, or 1 in display mode 4
-    pub run: u8,
+    pub run: u32,
 }
 
-/// The open transfer: its command and how many bytes of it are held. None is open where `active`
-/// is 0.
-#[repr(C)]
-#[derive(Clone, Copy, PartialEq, Eq, Debug)]
-pub struct Transfer {
-    pub active: u8,
-    pub cmd1: u8,
-    pub cmd2: u8,
-    pub held: usize,
-}
-
-/// All of a head but its two arrays.
+/// The packet that is coming in and the open transfer. No transfer is open where `active` is 0;
+/// otherwise it is one of the command `cmd1` `cmd2`.
 #[repr(C)]
 #[derive(Clone, Copy, PartialEq, Eq, Debug)]
 pub struct Registers {
-    pub settings: Settings,
-    pub transfer: Transfer,
-    /// The header bytes of the packet that is coming in; between two packets, those of the last one.
+    /// How many bytes of the packet have come in.
+    pub received: u32,
+    /// How many bytes of the transfer are held.
+    pub held: u16,
+    pub active: u8,
+    pub cmd1: u8,
+    pub cmd2: u8,
+    /// The packet's header bytes; between two packets, those of the last one.
     pub header: [u8; 6],
-    /// The sum of its bytes so far, modulo 256. It begins anew with a packet's first byte.
+    /// The sum of the packet's bytes so far, modulo 256. It begins anew with its first byte.
     pub sum: u8,
-    /// How many bytes of it have come in.
-    pub received: usize,
 }
 
 /// A head. All its fields may be read and written: the calls answer on any numbers.
 #[repr(C)]
 #[derive(Clone, PartialEq, Eq, Debug)]
 pub struct Controller {
+    pub settings: Settings,
     pub registers: Registers,
     /// The held bytes of the open transfer.
     pub buffer: [u8; HOLD],
@@ -215,59 +214,55 @@ pub struct Refused {
     pub place: usize,
 }
 
-/// The calls as the library exports them: a slice goes as a pointer and then a length.
+/// The calls as the library exports them: a slice goes as a pointer and then a length, and a call
+/// returns 0 or the number of its refusal.
 pub mod raw {
     use super::{Controller, Settings};
 
-    #[repr(C)]
-    #[derive(Clone, Copy, PartialEq, Eq, Debug)]
-    pub struct Receipt {
-        pub refusal: u8,
-        pub complete: u8,
-        pub taken: usize,
-        pub length: usize,
-    }
-
-    #[repr(C)]
-    #[derive(Clone, Copy, PartialEq, Eq, Debug)]
-    pub struct Emitted {
-        pub refusal: u8,
-        pub length: usize,
-    }
-
+    /// What is said of a report: the trial's number, score and end settings, or the place.
     #[repr(C)]
     #[derive(Clone, Copy, PartialEq, Eq, Debug)]
     pub struct Verdict {
-        pub refusal: u8,
-        pub place: usize,
-        pub trial: usize,
-        pub score: usize,
+        pub place: u64,
+        pub trial: u64,
+        pub score: u64,
         pub settings: Settings,
     }
 
     unsafe extern "C" {
-        pub fn head_fresh() -> Controller;
-        pub fn head_reset(c: *mut Controller);
-        pub fn head_receive(
+        pub fn imjarlet_reset(c: *mut Controller) -> u32;
+        pub fn imjarlet_receive(
             c: *mut Controller,
             input: *const u8,
-            input_length: usize,
+            input_length: u64,
             out: *mut u8,
-            out_length: usize,
-        ) -> Receipt;
-        pub fn head_encode(
+            out_length: u64,
+            taken: *mut u64,
+            size: *mut u64,
+        ) -> u32;
+        pub fn imjarlet_encode(
             cmd1: u8,
             cmd2: u8,
-            settings: Settings,
+            settings: *const Settings,
             out: *mut u8,
-            out_length: usize,
-        ) -> Emitted;
-        pub fn head_standard_list(settings: Settings, out: *mut u8, out_length: usize) -> Emitted;
-        pub fn head_check_report(report: *const u8, report_length: usize) -> Verdict;
+            out_length: u64,
+            size: *mut u64,
+        ) -> u32;
+        pub fn imjarlet_standard_list(
+            settings: *const Settings,
+            out: *mut u8,
+            out_length: u64,
+            size: *mut u64,
+        ) -> u32;
+        pub fn imjarlet_check_report(
+            report: *const u8,
+            report_length: u64,
+            verdict: *mut Verdict,
+        ) -> u32;
     }
 }
 
-fn refusal(number: u8) -> Refusal {
+fn refusal(number: u32) -> Refusal {
     match number {
         1 => Refusal::ShortOutput,
         2 => Refusal::NotAllowed,
@@ -276,7 +271,7 @@ fn refusal(number: u8) -> Refusal {
     }
 }
 
-fn reason(number: u8) -> Reason {
+fn reason(number: u32) -> Reason {
     match number {
         10 => Reason::TooLong,
         11 => Reason::CutShort,
@@ -296,32 +291,47 @@ fn reason(number: u8) -> Reason {
 impl Controller {
     /// A head at power-up: factory values, nothing half received and no transfer open.
     pub fn fresh() -> Controller {
-        unsafe { raw::head_fresh() }
+        // Zeros are a controller, as any bytes are.
+        let mut c: Controller = unsafe { core::mem::zeroed() };
+        c.reset();
+        c
     }
 
     /// Makes this a head at power-up, whatever it was.
     pub fn reset(&mut self) {
-        unsafe { raw::head_reset(self) }
+        unsafe { raw::imjarlet_reset(self) };
     }
 
     /// Takes bytes of the input until it ends or one packet is complete, and carries that packet
     /// out. Call it again with the bytes behind those that were taken. Refuses a short output and a
     /// controller that is out of rule.
     pub fn receive(&mut self, input: &[u8], out: &mut [u8]) -> Result<Answer, Refusal> {
-        let r = unsafe {
-            raw::head_receive(self, input.as_ptr(), input.len(), out.as_mut_ptr(), out.len())
+        let (mut taken, mut size) = (0, 0);
+        let number = unsafe {
+            raw::imjarlet_receive(
+                self,
+                input.as_ptr(),
+                input.len() as u64,
+                out.as_mut_ptr(),
+                out.len() as u64,
+                &mut taken,
+                &mut size,
+            )
         };
-        match (r.refusal, r.complete) {
-            (0, 0) => Ok(Answer::Waiting { taken: r.taken }),
-            (0, _) => Ok(Answer::Answered { taken: r.taken, length: r.length }),
-            (number, _) => Err(refusal(number)),
+        let (taken, length) = (taken as usize, size as usize);
+        match (number, length) {
+            (0, 0) => Ok(Answer::Waiting { taken }),
+            (0, _) => Ok(Answer::Answered { taken, length }),
+            _ => Err(refusal(number)),
         }
     }
 }
 
-fn emitted(e: raw::Emitted) -> Result<usize, Refusal> {
-    match e.refusal {
-        0 => Ok(e.length),
+/// The size that a call gives, or its refusal.
+fn emitted(call: impl FnOnce(&mut u64) -> u32) -> Result<usize, Refusal> {
+    let mut size = 0;
+    match call(&mut size) {
+        0 => Ok(size as usize),
         number => Err(refusal(number)),
     }
 }
@@ -330,21 +340,35 @@ fn emitted(e: raw::Emitted) -> Result<usize, Refusal> {
 /// its length. No other part of `settings` is looked at. Refuses a short output, a value that is not
 /// allowed and a command that is not in the table.
 pub fn encode(cmd1: u8, cmd2: u8, settings: &Settings, out: &mut [u8]) -> Result<usize, Refusal> {
-    emitted(unsafe { raw::head_encode(cmd1, cmd2, *settings, out.as_mut_ptr(), out.len()) })
+    let length = out.len() as u64;
+    emitted(|size| unsafe {
+        raw::imjarlet_encode(cmd1, cmd2, settings, out.as_mut_ptr(), length, size)
+    })
 }
 
 /// The standard shipping list, at the output's start: one whole-packet write for each command, which
 /// bring a head at factory values to these settings. Refuses a short output and settings that are
 /// out of rule.
 pub fn standard_list(settings: &Settings, out: &mut [u8]) -> Result<usize, Refusal> {
-    emitted(unsafe { raw::head_standard_list(*settings, out.as_mut_ptr(), out.len()) })
+    let length = out.len() as u64;
+    emitted(|size| unsafe { raw::imjarlet_standard_list(settings, out.as_mut_ptr(), length, size) })
 }
 
 /// Whether the settings that a tuning report ships are those that its best trial ended with.
 pub fn check_report(report: &[u8]) -> Result<Accepted, Refused> {
-    let v = unsafe { raw::head_check_report(report.as_ptr(), report.len()) };
-    match v.refusal {
-        0 => Ok(Accepted { trial: v.trial, score: v.score, settings: v.settings }),
-        number => Err(Refused { reason: reason(number), place: v.place }),
+    // Zeros are a verdict, as any bytes are.
+    let mut v: raw::Verdict = unsafe { core::mem::zeroed() };
+    let number =
+        unsafe { raw::imjarlet_check_report(report.as_ptr(), report.len() as u64, &mut v) };
+    match number {
+        0 => Ok(Accepted {
+            trial: v.trial as usize,
+            score: v.score as usize,
+            settings: v.settings,
+        }),
+        _ => Err(Refused {
+            reason: reason(number),
+            place: v.place as usize,
+        }),
     }
 }

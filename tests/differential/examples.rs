@@ -44,12 +44,12 @@ fn responses(stream: &[u8]) -> [Vec<u8>; 2] {
     let mut out = [0; 64];
     let mut rest = stream;
     while !rest.is_empty() {
-        let answer = ffi::receive(&mut theirs, rest, &mut out);
-        if answer.refusal != 0 || answer.taken == 0 {
+        let (mut taken, mut size) = (0, 0);
+        if ffi::receive(&mut theirs, rest, &mut out, &mut taken, &mut size) != 0 || taken == 0 {
             break;
         }
-        all[0].extend(&out[..answer.length]);
-        rest = &rest[answer.taken..];
+        all[0].extend(&out[..size as usize]);
+        rest = &rest[taken as usize..];
     }
     let mut rest = stream;
     while let Ok(model::Progress::Answered { taken, length }) = ours.receive(rest, &mut out) {
@@ -91,11 +91,14 @@ pub fn wrong() -> Vec<String> {
     ];
     for (report, wanted) in reports {
         let report = bytes(&report);
+        let mut verdict = ffi::UNSET_VERDICT;
+        let refusal = ffi::check_report(&report, &mut verdict);
         for (side, got) in [
-            ("library", ffi::check_report(&report)),
+            ("library", ffi::Judged { refusal, verdict }),
             ("model", model::check_report(&report).into()),
         ] {
-            if (got.refusal, got.place, got.trial, got.score) != wanted {
+            let verdict = &got.verdict;
+            if (got.refusal, verdict.place, verdict.trial, verdict.score) != wanted {
                 wrong.push(format!(
                     "{side}, report {report:02X?}: {got:?}, not {wanted:?}"
                 ));

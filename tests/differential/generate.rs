@@ -1,5 +1,6 @@
 //! The seeded generator: packets, transfers, controllers and reports, right ones and wrong ones.
 
+use super::ffi::Wide;
 use super::model::{self, Command, Controller, Settings, State, Transfer};
 
 /// Splitmix64.
@@ -503,6 +504,22 @@ pub fn doubtful_settings(rng: &mut Rng) -> Settings {
     settings
 }
 
+/// Values over 255 in one or two of the wider fields; their low bytes are often allowed.
+pub fn wide_settings(rng: &mut Rng) -> Wide {
+    let mut wide = Wide::default();
+    for _ in 0..1 + rng.below(2) {
+        let field = rng.below(4);
+        let bits = Wide::FIELDS[field].1;
+        let high = match rng.below(3) {
+            0 => 1 << (8 + rng.below(bits as usize - 8)),
+            1 => u32::MAX << 8,
+            _ => rng.next() as u32,
+        };
+        wide.0[field] = (high & !0xFF | rng.below(5) as u32) & (u32::MAX >> (32 - bits));
+    }
+    wide
+}
+
 /// A controller in rule, at any place of a packet and with or without a transfer.
 pub fn controller_in_rule(rng: &mut Rng) -> Controller {
     let mut c = Controller {
@@ -581,24 +598,27 @@ pub fn remainder(rng: &mut Rng, c: &Controller) -> Vec<u8> {
 }
 
 /// A controller as damage may leave it.
-pub fn damaged_controller(rng: &mut Rng) -> Controller {
+pub fn damaged_controller(rng: &mut Rng) -> (Controller, Wide) {
     let mut c = controller_in_rule(rng);
+    let mut wide = Wide::default();
     if rng.one_in(6) {
         // Random bytes in every field.
         c.state.settings.0 = rng.bytes(48).try_into().unwrap();
         c.state.transfer = Transfer {
             mark: rng.byte(),
             command: [rng.byte(), rng.byte()],
-            held: rng.next() as usize,
+            held: rng.next() as u16 as usize,
         };
         c.header = rng.bytes(6).try_into().unwrap();
         c.sum = rng.byte();
-        c.received = rng.next() as usize;
-        return c;
+        c.received = rng.next() as u32 as usize;
+        wide.0 = Wide::FIELDS.map(|(_, bits)| rng.next() as u32 >> (32 - bits));
+        return (c, wide);
     }
     for _ in 0..1 + rng.below(2) {
-        match rng.below(10) {
+        match rng.below(11) {
             0 => c.state.settings = doubtful_settings(rng),
+            10 => wide = wide_settings(rng),
             1 => c.state.transfer.mark = rng.pick(&[0, 1, 2, 3, 128, 254, 255]),
             2 => c.state.transfer.command = odd_command(rng),
             3 => c.state.transfer.command = command(rng).bytes(),
@@ -610,10 +630,10 @@ pub fn damaged_controller(rng: &mut Rng) -> Controller {
                     1024,
                     1025,
                     1026,
-                    65536,
-                    usize::MAX - 1024,
-                    usize::MAX - 1,
-                    usize::MAX,
+                    32768,
+                    65535 - 1024,
+                    65534,
+                    65535,
                 ]);
                 if rng.one_in(2) {
                     c.state.transfer.mark = rng.pick(&[0, 1]);
@@ -638,11 +658,12 @@ pub fn damaged_controller(rng: &mut Rng) -> Controller {
                         1024,
                         1030,
                         1031,
+                        65536,
                         65541,
                         65542,
                         65543,
-                        usize::MAX,
-                        usize::MAX - 6,
+                        u32::MAX as usize,
+                        u32::MAX as usize - 6,
                     ]),
                     6 => 7 + rng.below(length + 2),
                     _ => rng.pick(&[5, 6, 7]),
@@ -655,7 +676,7 @@ pub fn damaged_controller(rng: &mut Rng) -> Controller {
             }
         }
     }
-    c
+    (c, wide)
 }
 
 // ---------------------------------------------------------------------------------------------
@@ -1000,7 +1021,7 @@ pub fn report(rng: &mut Rng) -> Vec<u8> {
                 let length = rng.below(200);
                 bytes = rng.bytes(length);
             }
-            if rng.one_in(12) {
+            if rng.one_in(4) {
                 let length = rng.pick(&[60_000, 60_001, 60_002, 65_536]);
                 bytes.resize(length, 0);
             }

@@ -2,18 +2,20 @@
 //!
 //!     differential [N] [SEED] [--plant K] [--exact]
 //!
-//! N packets and N/10 reports (1,000,000 and 100,000). After each call the answer, every field of
-//! the controller and every byte of the output are compared. A case that differs is made smaller,
-//! printed as hex, and the exit status is 1. --plant K puts fault K into the model, to see that it
-//! is found. --exact lends the library buffers of exactly the length named, for valgrind.
+//! N packets and N/10 reports (1,000,000 and 100,000). After each call what it returns, every field of
+//! the controller, the numbers or the verdict that it fills, which hold EE before, and every byte of
+//! the output are compared. A case that differs is made smaller, printed as hex, and the exit status
+//! is 1. --plant K puts fault K into the model, to see that it is found. --exact lends the library
+//! memory of exactly the length named, for valgrind.
 
 mod examples;
 mod ffi;
 mod generate;
 mod model;
 
+use ffi::{Emitted, Judged, Receipt, Wide};
 use generate::{Report, Rng};
-use model::{Command, Controller, Settings};
+use model::{Command, Controller, Settings, Transfer};
 use std::fmt::Write;
 
 /// A cut that leaves all the bytes together.
@@ -43,6 +45,8 @@ struct Tally {
     damaged: u64,
     /// Controllers in rule with a sum left over and nothing half received: no transfer open, and one.
     left_over: [u64; 2],
+    /// Values over 255 in lent settings: of a controller, of the encoder, of the standard list.
+    wide: [u64; 3],
     /// Payloads of 1,024, of 1,025 and of 65,535 bytes.
     long: [u64; 3],
     resets: u64,
@@ -52,6 +56,7 @@ struct Tally {
 #[derive(Clone, PartialEq)]
 struct Stream {
     start: Controller,
+    wide: Wide,
     parts: Vec<Vec<u8>>,
     cuts: Vec<usize>,
     outs: Vec<usize>,
@@ -65,10 +70,12 @@ enum Case {
     Encode {
         cmd: [u8; 2],
         settings: Settings,
+        wide: Wide,
         out: usize,
     },
     List {
         settings: Settings,
+        wide: Wide,
         out: usize,
     },
     Report(Vec<u8>),
@@ -88,32 +95,26 @@ fn hex(bytes: &[u8]) -> String {
     text
 }
 
+/// Settings as the model has them, and for the library as they are lent.
+fn lent(settings: &Settings, wide: &Wide) -> (Settings, Box<ffi::Settings>) {
+    let mut ours = *settings;
+    wide.tell(&mut ours);
+    let mut theirs = ffi::Settings::from(&ours);
+    wide.put(&mut theirs);
+    (ours, Box::new(theirs))
+}
+
 /// The first field in which the library's controller is not the model's.
-fn unlike(library: &ffi::Controller, model: &Controller) -> Option<String> {
-    let got = &library.registers;
+fn unlike(library: &ffi::Controller, model: &Controller, wide: &Wide) -> Option<String> {
+    let got = library;
+    let mut wanted = ffi::Settings::from(&model.state.settings);
+    wide.put(&mut wanted);
+    if got.settings != wanted {
+        return Some(format!("settings {:?}, model {wanted:?}", got.settings));
+    }
     let wanted = ffi::Registers::from(model);
-    if got.settings != wanted.settings {
-        return Some(format!(
-            "settings {:?}, model {:?}",
-            got.settings, wanted.settings
-        ));
-    }
-    if got.transfer != wanted.transfer {
-        return Some(format!(
-            "transfer {:?}, model {:?}",
-            got.transfer, wanted.transfer
-        ));
-    }
-    if *got != wanted {
-        return Some(format!(
-            "header {} sum {:02X} received {}, model {} {:02X} {}",
-            hex(&got.header),
-            got.sum,
-            got.received,
-            hex(&wanted.header),
-            wanted.sum,
-            wanted.received
-        ));
+    if got.registers != wanted {
+        return Some(format!("registers {:?}, model {wanted:?}", got.registers));
     }
     [
         ("buffer", &library.buffer, &model.state.buffer),
@@ -130,25 +131,76 @@ fn unlike(library: &ffi::Controller, model: &Controller) -> Option<String> {
     })
 }
 
+/// Something that a call is to fill in, between words that it must leave.
+#[repr(C)]
+struct Between<T> {
+    before: [u64; 2],
+    filled: T,
+    behind: [u64; 2],
+}
+
 impl Harness {
+    /// Lends something to a call that fills it in.
+    fn fill<T, A>(&self, unset: T, call: impl FnOnce(&mut T) -> A) -> Result<(A, T), String> {
+        if self.exact {
+            let mut lent = Box::new(unset);
+            let answer = call(&mut lent);
+            return Ok((answer, *lent));
+        }
+        let words = [ffi::UNSET; 2];
+        let mut lent = Between {
+            before: words,
+            filled: unset,
+            behind: words,
+        };
+        let answer = call(&mut lent.filled);
+        let lent = std::hint::black_box(lent);
+        if [lent.before, lent.behind] != [words; 2] {
+            return Err("bytes beside what is filled in were written".into());
+        }
+        Ok((answer, lent.filled))
+    }
+
+    fn receive(
+        &self,
+        c: &mut ffi::Controller,
+        input: &[u8],
+        out: &mut [u8],
+    ) -> Result<Receipt, String> {
+        let (filled, taken) = self.fill(ffi::UNSET, |taken| {
+            self.fill(ffi::UNSET, |size| ffi::receive(c, input, out, taken, size))
+        })?;
+        let (refusal, size) = filled?;
+        Ok(Receipt {
+            refusal,
+            taken,
+            size,
+        })
+    }
+
+    fn emit(&self, call: impl FnOnce(&mut u64) -> u32) -> Result<Emitted, String> {
+        let (refusal, size) = self.fill(ffi::UNSET, call)?;
+        Ok(Emitted { refusal, size })
+    }
+
     /// Gives both sides an output of `length` bytes, filled with the canary, and compares every
     /// byte afterwards.
     fn lend<A: PartialEq + std::fmt::Debug>(
         &self,
         length: usize,
         canary: u8,
-        library: impl FnOnce(&mut [u8]) -> A,
+        library: impl FnOnce(&mut [u8]) -> Result<A, String>,
         model: impl FnOnce(&mut [u8]) -> A,
     ) -> Result<(A, [u8; LENT]), String> {
         let mut wanted = [canary; LENT];
         let mut got = [canary; LENT];
         let answer = if self.exact {
             let mut out = vec![canary; length].into_boxed_slice();
-            let answer = library(&mut out);
+            let answer = library(&mut out)?;
             got[..length].copy_from_slice(&out);
             answer
         } else {
-            library(&mut got[BEHIND..][..length])
+            library(&mut got[BEHIND..][..length])?
         };
         if !self.exact {
             let before = got[..BEHIND].iter().all(|&b| b == canary);
@@ -177,42 +229,56 @@ impl Harness {
     fn run(&mut self, case: &Case) -> Result<(), String> {
         match case {
             Case::Stream(stream) => self.run_stream(stream),
-            Case::Encode { cmd, settings, out } => {
-                let theirs = ffi::Settings::from(settings);
+            Case::Encode {
+                cmd,
+                settings,
+                wide,
+                out,
+            } => {
+                let (ours, theirs) = lent(settings, wide);
                 let (answer, _) = self.lend(
                     *out,
                     0xA5,
-                    |b| ffi::encode(cmd[0], cmd[1], &theirs, b),
-                    |b| model::encode(Command::from_bytes(cmd[0], cmd[1]), settings, b).into(),
+                    |b| self.emit(|size| ffi::encode(*cmd, &theirs, b, size)),
+                    |b| model::encode(Command::from_bytes(cmd[0], cmd[1]), &ours, b).into(),
                 )?;
                 self.tally.encoded += 1;
                 self.tally.emit_refusals[answer.refusal as usize] += 1;
                 Ok(())
             }
-            Case::List { settings, out } => {
-                let theirs = ffi::Settings::from(settings);
+            Case::List {
+                settings,
+                wide,
+                out,
+            } => {
+                let (ours, theirs) = lent(settings, wide);
                 let (answer, _) = self.lend(
                     *out,
                     0x5A,
-                    |b| ffi::standard_list(&theirs, b),
-                    |b| model::standard_list(settings, b).into(),
+                    |b| self.emit(|size| ffi::standard_list(&theirs, b, size)),
+                    |b| model::standard_list(&ours, b).into(),
                 )?;
                 self.tally.lists += 1;
                 self.tally.emit_refusals[answer.refusal as usize] += 1;
                 Ok(())
             }
             Case::Report(bytes) => {
-                let answer = if self.exact {
-                    ffi::check_report(&bytes.clone().into_boxed_slice())
+                let lent: Box<[u8]> = if self.exact {
+                    bytes[..].into()
                 } else {
-                    ffi::check_report(bytes)
+                    Box::default()
                 };
-                let wanted = ffi::Verdict::from(model::check_report(bytes));
+                let report = if self.exact { &lent } else { &bytes[..] };
+                let (refusal, verdict) = self.fill(ffi::UNSET_VERDICT, |verdict| {
+                    ffi::check_report(report, verdict)
+                })?;
+                let answer = Judged { refusal, verdict };
+                let wanted = Judged::from(model::check_report(bytes));
                 if answer != wanted {
-                    return Err(format!("verdict {answer:?}, model {wanted:?}"));
+                    return Err(format!("answer {answer:?}, model {wanted:?}"));
                 }
                 self.tally.reports += 1;
-                self.tally.verdicts[answer.refusal as usize] += 1;
+                self.tally.verdicts[refusal as usize] += 1;
                 Ok(())
             }
         }
@@ -233,7 +299,9 @@ impl Harness {
     fn run_stream(&mut self, stream: &Stream) -> Result<(), String> {
         let bytes = stream.parts.concat();
         let mut ours = stream.start;
-        let mut theirs = ffi::Controller::from(&ours);
+        stream.wide.tell(&mut ours.state.settings);
+        let mut theirs = Box::new(ffi::Controller::from(&ours));
+        stream.wide.put(&mut theirs.settings);
         let mut at = 0;
         let mut idle = 0;
         for call in 0.. {
@@ -249,17 +317,17 @@ impl Harness {
                 .lend(
                     length,
                     stream.canary.wrapping_add(call as u8),
-                    |b| ffi::receive(&mut theirs, if self.exact { &lent } else { input }, b),
+                    |b| self.receive(&mut theirs, if self.exact { &lent } else { input }, b),
                     |b| ours.receive(input, b).into(),
                 )
                 .map_err(|what| format!("call {call} at byte {at}: {what}"))?;
-            if let Some(what) = unlike(&theirs, &ours) {
+            if let Some(what) = unlike(&theirs, &ours, &stream.wide) {
                 return Err(format!(
                     "call {call} at byte {at}, answer {answer:?}: {what}"
                 ));
             }
             self.note(cut, &answer, &out);
-            at += answer.taken;
+            at += answer.taken as usize;
             idle = if answer.taken == 0 { idle + 1 } else { 0 };
             // Nothing more comes of the end of the input, nor of a controller that is refused.
             if (at == bytes.len() && idle > 0) || answer.refusal == 3 || idle > 20 {
@@ -267,8 +335,10 @@ impl Harness {
             }
         }
         if stream.reset {
-            theirs.reset();
-            if let Some(what) = unlike(&theirs, &Controller::default()) {
+            if ffi::reset(&mut theirs) != 0 {
+                return Err("reset refused".into());
+            }
+            if let Some(what) = unlike(&theirs, &Controller::default(), &Wide::default()) {
                 return Err(format!("after reset: {what}"));
             }
             self.tally.resets += 1;
@@ -276,7 +346,7 @@ impl Harness {
         Ok(())
     }
 
-    fn note(&mut self, cut: usize, answer: &ffi::Receipt, out: &[u8]) {
+    fn note(&mut self, cut: usize, answer: &Receipt, out: &[u8]) {
         let tally = &mut self.tally;
         tally.calls += 1;
         tally.one_byte_calls += (cut == 1) as u64;
@@ -284,7 +354,7 @@ impl Harness {
         if answer.refusal != 0 {
             return;
         }
-        if answer.complete == 0 {
+        if answer.size == 0 {
             tally.waiting += 1;
             return;
         }
@@ -292,7 +362,7 @@ impl Harness {
         match out[0] {
             1 => {
                 tally.errors += 1;
-                for &code in &out[6..answer.length - 1] {
+                for &code in &out[6..answer.size as usize - 1] {
                     tally.codes[code as usize % 16] += 1;
                 }
             }
@@ -328,17 +398,17 @@ fn outs(rng: &mut Rng) -> Vec<usize> {
 
 fn stream_case(rng: &mut Rng) -> Stream {
     let kind = rng.below(8);
-    let (start, mut parts) = match kind {
+    let (start, wide, mut parts) = match kind {
         0 | 1 => {
-            let c = if kind == 0 {
+            let (c, wide) = if kind == 0 {
                 generate::damaged_controller(rng)
             } else {
-                generate::controller_in_rule(rng)
+                (generate::controller_in_rule(rng), Wide::default())
             };
             let rest = generate::remainder(rng, &c);
-            (c, vec![rest])
+            (c, wide, vec![rest])
         }
-        _ => (Controller::default(), Vec::new()),
+        _ => (Controller::default(), Wide::default(), Vec::new()),
     };
     let groups = if kind == 0 {
         rng.below(3)
@@ -357,6 +427,7 @@ fn stream_case(rng: &mut Rng) -> Stream {
     let total = parts.iter().map(Vec::len).sum();
     Stream {
         start,
+        wide,
         parts,
         cuts: cuts(rng, total),
         outs: outs(rng),
@@ -371,13 +442,22 @@ fn emit_case(rng: &mut Rng) -> Case {
     } else {
         generate::doubtful_settings(rng)
     };
+    let wide = if rng.one_in(8) {
+        generate::wide_settings(rng)
+    } else {
+        Wide::default()
+    };
     if rng.one_in(3) {
         let out = if rng.one_in(4) {
             rng.below(131)
         } else {
             126 + rng.below(5)
         };
-        return Case::List { settings, out };
+        return Case::List {
+            settings,
+            wide,
+            out,
+        };
     }
     let cmd = if rng.one_in(8) {
         [rng.below(6) as u8, rng.below(9) as u8]
@@ -389,13 +469,19 @@ fn emit_case(rng: &mut Rng) -> Case {
     } else {
         62 + rng.below(10)
     };
-    Case::Encode { cmd, settings, out }
+    Case::Encode {
+        cmd,
+        settings,
+        wide,
+        out,
+    }
 }
 
 /// One packet for a fresh controller.
 fn single(bytes: Vec<u8>, out: usize) -> Case {
     Case::Stream(Box::new(Stream {
         start: Controller::default(),
+        wide: Wide::default(),
         parts: vec![bytes],
         cuts: vec![ALL],
         outs: vec![out],
@@ -411,6 +497,7 @@ fn swept() -> impl Iterator<Item = Case> {
         let encode = move |c: Command| Case::Encode {
             cmd: c.bytes(),
             settings: factory,
+            wide: Wide::default(),
             out,
         };
         let read = |c: Command| generate::packet(4, c.bytes(), 0, &[]);
@@ -420,6 +507,7 @@ fn swept() -> impl Iterator<Item = Case> {
             .chain([vec![], vec![2], vec![7; 14]]);
         let list = Case::List {
             settings: factory,
+            wide: Wide::default(),
             out,
         };
         let calls = packets.map(move |bytes| single(bytes, out));
@@ -436,6 +524,7 @@ fn swept() -> impl Iterator<Item = Case> {
             Case::Encode {
                 cmd,
                 settings: factory,
+                wide: Wide::default(),
                 out: 64,
             },
             packet(2),
@@ -463,9 +552,14 @@ fn swept() -> impl Iterator<Item = Case> {
                 Case::Encode {
                     cmd,
                     settings,
+                    wide: Wide::default(),
                     out: 64,
                 },
-                Case::List { settings, out: 128 },
+                Case::List {
+                    settings,
+                    wide: Wide::default(),
+                    out: 128,
+                },
                 single(write, 64),
                 start,
             ]
@@ -484,11 +578,69 @@ fn swept() -> impl Iterator<Item = Case> {
             case
         })
     });
+    // How many bytes of a packet have come in, about its length and where 16 bits end, and how many
+    // of a transfer are held: each with a byte or a packet that goes on.
+    let counts = [0, 1, 1024, 65_535].into_iter().flat_map(|length: u16| {
+        let due = 7 + length as usize;
+        let ends = [0, due, 1 << 16, 1 << 17, (1 << 17) + due, 1 << 31];
+        let about = ends
+            .into_iter()
+            .flat_map(|end: usize| end.saturating_sub(9)..end + 9);
+        let last = u32::MAX as usize;
+        about.chain(last - 9..=last).map(move |received| {
+            let mut case = single(vec![2], 64);
+            if let Case::Stream(stream) = &mut case {
+                let [low, high] = length.to_le_bytes();
+                stream.start.header = [2, 1, 3, 0, low, high];
+                stream.start.sum = 2;
+                stream.start.received = received;
+            }
+            case
+        })
+    });
+    let held = (0..=0xFFFF).map(|held: u16| {
+        let mut case = single(generate::packet(2, [1, 3], 2, &[5]), 64);
+        if let Case::Stream(stream) = &mut case {
+            stream.start.state.transfer = Transfer {
+                mark: 1,
+                command: [1, 3],
+                held: held as usize,
+            };
+        }
+        case
+    });
+    // Each bit of a wider field beyond its byte, which may be allowed.
+    let bits = (0..4).flat_map(|field| (8..Wide::FIELDS[field].1).map(move |bit| (field, bit)));
+    let wides = bits.flat_map(move |(field, bit)| {
+        (0..5).flat_map(move |low| {
+            let mut wide = Wide::default();
+            wide.0[field] = 1 << bit | low;
+            let mut start = single(vec![2], 64);
+            if let Case::Stream(stream) = &mut start {
+                stream.wide = wide;
+            }
+            let encode = move |c: Command| Case::Encode {
+                cmd: c.bytes(),
+                settings: factory,
+                wide,
+                out: 64,
+            };
+            let list = Case::List {
+                settings: factory,
+                wide,
+                out: 128,
+            };
+            Command::ALL.into_iter().map(encode).chain([list, start])
+        })
+    });
     lengths
         .chain(commands)
         .chain(kinds)
         .chain(values)
         .chain(sums)
+        .chain(counts)
+        .chain(held)
+        .chain(wides)
 }
 
 // ---------------------------------------------------------------------------------------------
@@ -542,6 +694,9 @@ fn smaller_stream(s: &Stream) -> Vec<Case> {
     };
     let fresh = Controller::default();
     push(&|n| n.start = fresh);
+    for i in 0..4 {
+        push(&|n| n.wide.0[i] = 0);
+    }
     push(&|n| n.start.state.settings = fresh.state.settings);
     push(&|n| n.start.state.transfer = fresh.state.transfer);
     push(&|n| n.start.header = fresh.header);
@@ -607,52 +762,59 @@ fn smaller_report(bytes: &[u8]) -> Vec<Case> {
     cases
 }
 
+/// One byte at its factory value, one wider field as it is without, or the usual output.
+fn smaller_settings(
+    settings: &Settings,
+    wide: &Wide,
+    out: usize,
+    usual: usize,
+) -> impl Iterator<Item = (Settings, Wide, usize)> {
+    let from = (*settings, *wide, out);
+    let bytes = (0..48).map(move |i| {
+        let mut next = from;
+        next.0 .0[i] = Settings::FACTORY.0[i];
+        next
+    });
+    let fields = (0..4).map(move |i| {
+        let mut next = from;
+        next.1 .0[i] = 0;
+        next
+    });
+    let lengths = [(from.0, from.1, usual)];
+    bytes
+        .chain(fields)
+        .chain(lengths)
+        .filter(move |next| *next != from)
+}
+
 fn smaller(case: &Case) -> Vec<Case> {
     match case {
         Case::Stream(stream) => smaller_stream(stream),
         Case::Report(bytes) => smaller_report(bytes),
-        Case::Encode { cmd, settings, out } => {
-            let mut cases = Vec::new();
-            for i in 0..48 {
-                let mut next = *settings;
-                next.0[i] = Settings::FACTORY.0[i];
-                if next != *settings {
-                    cases.push(Case::Encode {
-                        cmd: *cmd,
-                        settings: next,
-                        out: *out,
-                    });
-                }
-            }
-            if *out != 64 {
-                cases.push(Case::Encode {
-                    cmd: *cmd,
-                    settings: *settings,
-                    out: 64,
-                });
-            }
-            cases
-        }
-        Case::List { settings, out } => {
-            let mut cases = Vec::new();
-            for i in 0..48 {
-                let mut next = *settings;
-                next.0[i] = Settings::FACTORY.0[i];
-                if next != *settings {
-                    cases.push(Case::List {
-                        settings: next,
-                        out: *out,
-                    });
-                }
-            }
-            if *out != 128 {
-                cases.push(Case::List {
-                    settings: *settings,
-                    out: 128,
-                });
-            }
-            cases
-        }
+        Case::Encode {
+            cmd,
+            settings,
+            wide,
+            out,
+        } => smaller_settings(settings, wide, *out, 64)
+            .map(|(settings, wide, out)| Case::Encode {
+                cmd: *cmd,
+                settings,
+                wide,
+                out,
+            })
+            .collect(),
+        Case::List {
+            settings,
+            wide,
+            out,
+        } => smaller_settings(settings, wide, *out, 128)
+            .map(|(settings, wide, out)| Case::List {
+                settings,
+                wide,
+                out,
+            })
+            .collect(),
     }
 }
 
@@ -676,8 +838,14 @@ fn shrink(harness: &mut Harness, case: Case) -> Case {
 }
 
 fn show(case: &Case) {
+    let show_wide = |wide: &Wide| {
+        if wide.any() {
+            println!("  rotate, video LED, sequence LED, run: {:X?}", wide.0);
+        }
+    };
     match case {
         Case::Stream(s) => {
+            show_wide(&s.wide);
             if s.start == Controller::default() {
                 println!("  controller: fresh");
             } else {
@@ -708,14 +876,25 @@ fn show(case: &Case) {
             }
             println!("  output lengths: {:?}, reset: {}", s.outs, s.reset);
         }
-        Case::Encode { cmd, settings, out } => {
+        Case::Encode {
+            cmd,
+            settings,
+            wide,
+            out,
+        } => {
+            show_wide(wide);
             println!(
                 "  encode {} output {out} settings {}",
                 hex(cmd),
                 hex(&settings.0)
             );
         }
-        Case::List { settings, out } => {
+        Case::List {
+            settings,
+            wide,
+            out,
+        } => {
+            show_wide(wide);
             println!(
                 "  standard list, output {out} settings {}",
                 hex(&settings.0)
@@ -755,6 +934,13 @@ fn missing(t: &Tally) -> Vec<String> {
     need("read response".into(), t.read);
     need("encoded".into(), t.emit_refusals[0]);
     need("reset".into(), t.resets);
+    for (seen, of) in t
+        .wide
+        .into_iter()
+        .zip(["a controller", "encode", "the list"])
+    {
+        need(format!("a value over 255 in the settings of {of}"), seen);
+    }
     for (seen, open) in t.left_over.into_iter().zip(["no", "a"]) {
         need(format!("a sum left over, {open} transfer open"), seen);
     }
@@ -781,6 +967,10 @@ fn summary(t: &Tally) {
     println!(
         "payloads of 1,024 bytes: {}, of 1,025: {}, of 65,535: {}",
         t.long[0], t.long[1], t.long[2]
+    );
+    println!(
+        "values over 255: in {} controllers, for {} calls of encode and {} of the standard list",
+        t.wide[0], t.wide[1], t.wide[2]
     );
     let codes: Vec<String> = (0..16)
         .filter(|&code| t.codes[code] > 0)
@@ -845,7 +1035,9 @@ fn main() {
         exact,
         tally: Tally::default(),
     };
-    if let Some(what) = unlike(&ffi::Controller::fresh(), &Controller::default()) {
+    let mut fresh = Box::new(ffi::UNSET_CONTROLLER);
+    ffi::reset(&mut fresh);
+    if let Some(what) = unlike(&fresh, &Controller::default(), &Wide::default()) {
         println!("DIFFERENT: fresh controller: {what}");
         std::process::exit(1);
     }
@@ -873,8 +1065,9 @@ fn main() {
         if harness.tally.packets < count {
             let stream = stream_case(&mut rng);
             let start = &stream.start;
-            harness.tally.damaged += (*start != Controller::default()) as u64;
-            if start.in_rule() && start.received == 0 && start.sum != 0 {
+            let damaged = *start != Controller::default() || stream.wide.any();
+            harness.tally.damaged += damaged as u64;
+            if start.in_rule() && !stream.wide.any() && start.received == 0 && start.sum != 0 {
                 harness.tally.left_over[start.state.transfer.open() as usize] += 1;
             }
             for part in &stream.parts {
@@ -882,8 +1075,15 @@ fn main() {
                 harness.tally.long[1] += (part.len() == 1025 + 7) as u64;
                 harness.tally.long[2] += (part.len() == 65_535 + 7) as u64;
             }
+            harness.tally.wide[0] += stream.wide.any() as u64;
             harness.hold(Case::Stream(Box::new(stream)), "stream", seed);
-            harness.hold(emit_case(&mut rng), "emit", seed);
+            let emit = emit_case(&mut rng);
+            match &emit {
+                Case::Encode { wide, .. } => harness.tally.wide[1] += wide.any() as u64,
+                Case::List { wide, .. } => harness.tally.wide[2] += wide.any() as u64,
+                _ => {}
+            }
+            harness.hold(emit, "emit", seed);
         }
         if harness.tally.reports < count / 10 {
             harness.hold(Case::Report(generate::report(&mut rng)), "report", seed);

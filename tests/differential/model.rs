@@ -37,18 +37,18 @@ pub static PLANT: std::sync::atomic::AtomicUsize = std::sync::atomic::AtomicUsiz
 
 #[cfg(plants)]
 #[inline]
-fn planted(fault: usize) -> bool {
+pub fn planted(fault: usize) -> bool {
     PLANT.load(std::sync::atomic::Ordering::Relaxed) == fault
 }
 
 #[cfg(not(plants))]
 #[inline(always)]
-const fn planted(_fault: usize) -> bool {
+pub const fn planted(_fault: usize) -> bool {
     false
 }
 
 /// What each planted fault is, from 1.
-pub const PLANTS: [&str; 24] = [
+pub const PLANTS: [&str; 28] = [
     "the last of equal scores is the winner",
     "a transfer stays open after an error packet",
     "error codes descend",
@@ -73,6 +73,10 @@ pub const PLANTS: [&str; 24] = [
     "a payload that is coming in is stored over the transfer's data",
     "empty input begins the sum anew",
     "a part of a transfer is stored before it is judged",
+    "a value over 255 in a wider field counts as its low byte",
+    "a refusal leaves what taken and size held",
+    "a packet that is not complete leaves what size held",
+    "a refused report leaves the settings that the verdict held",
 ];
 
 // ---------------------------------------------------------------------------------------------

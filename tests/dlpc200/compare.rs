@@ -5,7 +5,7 @@
 #[path = "../../include/dlpc200.rs"]
 mod dlpc200;
 mod model;
-use dlpc200::{Device, Receiver, States, faults};
+use dlpc200::{Device, States, calls, faults};
 use model::{Answer, Judged, Model};
 
 struct Random(u64);
@@ -74,12 +74,10 @@ impl Tally {
 
 fn real(m: &Model) -> Device {
     let [park, sequence, eeprom, flash, lit] = m.states;
-    let mut header = [0; 6];
+    let (mut header, mut hold) = ([0; 6], [0; 4]);
     header.copy_from_slice(&m.first[..6]);
-    Device {
-        states: States { park, sequence, eeprom, flash, lit },
-        receiver: Receiver { header, id: [m.first[6], m.first[7]], sum: m.sum, received: m.count },
-    }
+    hold.copy_from_slice(&m.first[6..]);
+    Device { received: m.count as u32, header, hold, sum: m.sum, states: States { park, sequence, eeprom, flash, lit } }
 }
 
 fn told(answer: &Answer) -> dlpc200::Answer {
@@ -90,7 +88,16 @@ fn told(answer: &Answer) -> dlpc200::Answer {
     }
 }
 
-// One call on both sides, and on the real side by value and lent. Gives the bytes taken.
+// The library's call itself: the refusal, the bytes taken and the response's size, over numbers that
+// stood where these go.
+fn numbers(d: &mut Device, input: &[u8], out: &mut [u8], stood: u64) -> (u32, u64, u64) {
+    let (mut taken, mut size) = (stood, stood);
+    let refusal = unsafe { calls::dlpc200_receive(d, input.as_ptr(), input.len() as u64, out.as_mut_ptr(), out.len() as u64, &mut taken, &mut size) };
+    (refusal, taken, size)
+}
+
+// One call on both sides, and on the real side through the Rust view and by itself. Gives the bytes
+// taken.
 fn call(m: &mut Model, input: &[u8], room: usize, fill: u8, tally: &mut Tally) -> usize {
     let before = real(m);
     let anew = m.sum != 0 && m.count <= 4;
@@ -98,8 +105,8 @@ fn call(m: &mut Model, input: &[u8], room: usize, fill: u8, tally: &mut Tally) -
     let (answer, judged) = m.receive(input, &mut wanted);
     tally.add("sum begun anew, carried out", anew && judged.is_some_and(|j| !j.failed()));
     tally.add("sum begun anew, checksum wrong", anew && judged.is_some_and(|j| j.checksum));
-    tally.add("sum begun anew, waiting", anew && matches!(answer, Answer::Waiting(n) if before.receiver.received + n > 4));
-    tally.add("nothing summed yet, waiting", anew && matches!(answer, Answer::Waiting(n) if n > 0 && before.receiver.received + n <= 4));
+    tally.add("sum begun anew, waiting", anew && matches!(answer, Answer::Waiting(n) if before.received as usize + n > 4));
+    tally.add("nothing summed yet, waiting", anew && matches!(answer, Answer::Waiting(n) if n > 0 && before.received as usize + n <= 4));
     tally.answer(&answer, &judged, u16::from_le_bytes([m.first[4], m.first[5]]) as usize);
 
     let mut lent = before;
@@ -108,10 +115,16 @@ fn call(m: &mut Model, input: &[u8], room: usize, fill: u8, tally: &mut Tally) -
     assert_eq!((lent, got), (real(m), told(&answer)), "from {before:?} with {input:02X?}");
     assert_eq!(out, wanted, "from {before:?} with {input:02X?}");
 
+    let mut lent = before;
     let mut out = vec![fill; room];
-    let got = before.step(input, &mut out);
-    assert_eq!(got, (real(m), told(&answer)), "by value, from {before:?} with {input:02X?}");
-    assert_eq!(out, wanted, "by value, from {before:?} with {input:02X?}");
+    let got = numbers(&mut lent, input, &mut out, u64::from_ne_bytes([fill; 8]));
+    let numbers = match answer {
+        Answer::Refused(number) => (number, 0, 0),
+        Answer::Waiting(taken) => (0, taken as u64, 0),
+        Answer::Answered(taken, length) => (0, taken as u64, length as u64),
+    };
+    assert_eq!((lent, got), (real(m), numbers), "by itself, from {before:?} with {input:02X?}");
+    assert_eq!(out, wanted, "by itself, from {before:?} with {input:02X?}");
 
     if let Some(j) = judged {
         assert_eq!(faults(out[6], out[7]), j.faults(), "faults of {out:02X?}");
@@ -182,7 +195,7 @@ fn worked(tally: &mut Tally) {
         (&[0x04, 0xAA, 0, 0, 2, 0, 0x2A, 0, 0x2C], &[0x05, 0xAA, 0, 0, 3, 0, 0, 0, 1, 0x04]),
     ];
     let mut d = Device::new(States { park: 0, sequence: 1, eeprom: 0, flash: 7, lit: 1 });
-    let mut m = Model { states: [0, 1, 0, 7, 1], first: [0; 8], count: 0, sum: 0 };
+    let mut m = Model { states: [0, 1, 0, 7, 1], first: [0; 10], count: 0, sum: 0 };
     assert_eq!(d, real(&m));
     for (request, response) in requests {
         let mut out = [0xEE; 64];
@@ -195,7 +208,7 @@ fn worked(tally: &mut Tally) {
     // With nothing received it does not matter what stands in the sum.
     for (checksum, status, park) in [(0x07, 0x00, 1), (0x08, 0x41, 0)] {
         let mut d = Device::new(States { park: 0, sequence: 1, eeprom: 0, flash: 7, lit: 1 });
-        d.receiver.sum = 1;
+        d.sum = 1;
         let mut out = [0xEE; 64];
         d.receive(&[0x02, 0xAA, 0, 0, 2, 0, 0x05, 0, checksum], &mut out);
         assert_eq!((out[6], d.states.park), (status, park));
@@ -212,10 +225,20 @@ fn counts() {
     }
 }
 
+// A device of any bytes is reset to one between two packets, whatever the states.
+fn reset(m: &Model, r: &mut Random) {
+    let byte = r.byte();
+    let mut d = real(&Model { states: [byte; 5], first: [byte; 10], count: u32::from_ne_bytes([byte; 4]) as usize, sum: byte });
+    let wanted = real(m);
+    assert_eq!(unsafe { calls::dlpc200_reset(&mut d, &wanted.states) }, 0);
+    assert_eq!((d, Device::new(wanted.states)), (wanted, wanted));
+}
+
 // A stream of packets, cut anywhere. Up to four bytes of the first have come in before, and what
 // stands in the sum then does not matter.
 fn stream(r: &mut Random, tally: &mut Tally) {
-    let mut m = Model { states: states(r), first: [0; 8], count: 0, sum: 0 };
+    let mut m = Model { states: states(r), first: [0; 10], count: 0, sum: 0 };
+    reset(&m, r);
     let mut stream = vec![];
     for _ in 0..r.below(6) {
         stream.extend(packet(r));
@@ -250,7 +273,7 @@ fn stream(r: &mut Random, tally: &mut Tally) {
 // A device of any field values, and some bytes.
 fn damaged(r: &mut Random, tally: &mut Tally) {
     let length = r.one_of(&[0usize, 1, 2, 3, 504, 505, 65535]);
-    let mut first = [0; 8];
+    let mut first = [0; 10];
     first.iter_mut().for_each(|b| *b = r.byte());
     first[4] = length as u8;
     first[5] = (length >> 8) as u8;
@@ -259,7 +282,7 @@ fn damaged(r: &mut Random, tally: &mut Tally) {
         1 => (length + 6).saturating_sub(r.below(4)),
         2 => length + 6,
         3 => length + 7 + r.below(3),
-        4 => usize::MAX - r.below(2),
+        4 => u32::MAX as usize - r.below(2),
         _ => r.below(70000),
     };
     let mut m = Model { states: states(r), first, count, sum: r.byte() };

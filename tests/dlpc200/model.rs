@@ -15,8 +15,8 @@ fn plant(n: u32) -> bool {
 pub struct Model {
     // 0015, 0016, 0017, 0029, 002A
     pub states: [u8; 5],
-    // the first eight bytes of the packet that is coming in, over those of the one before
-    pub first: [u8; 8],
+    // the first ten bytes of the packet that is coming in, over those of the one before
+    pub first: [u8; 10],
     // its bytes so far, and the sum of those after CMD4; with none of those yet the sum may be anything
     pub count: usize,
     pub sum: u8,
@@ -24,7 +24,7 @@ pub struct Model {
 
 #[derive(Clone, Copy, PartialEq, Eq, Debug)]
 pub enum Answer {
-    Refused(u8),
+    Refused(u32),
     Waiting(usize),
     Answered(usize, usize),
 }
@@ -95,7 +95,7 @@ impl Model {
                 out[..response.len()].copy_from_slice(&response);
                 return (Answer::Answered(at + 1, response.len()), Some(judged));
             }
-            if self.count < 8 {
+            if self.count < self.first.len() {
                 self.first[self.count] = byte;
             }
             // plant 4: the checksum counts CMD4; plant 13: the sum goes on from what stands there

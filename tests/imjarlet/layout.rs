@@ -1,58 +1,105 @@
 // The sizes and offsets of include/imjarlet.rs, in the words of layout.c, and each answer of its
-// functions once.
+// functions once. Sizes, and that no type has padding, are asserted when this is compiled.
 #[path = "../../include/imjarlet.rs"]
 mod imjarlet;
 
 use imjarlet::*;
-use std::mem::{offset_of, size_of};
+use std::mem::{offset_of, size_of, transmute};
+
+/// The size of a field, which the function picks.
+const fn size_of_field<T, F>(_: fn(&T) -> &F) -> usize {
+    size_of::<F>()
+}
 
 macro_rules! layout {
-    ($($name:literal $type:ty { $($field:tt as $shown:literal),* })*) => {
+    ($($name:literal $type:ty, $size:literal { $($field:tt as $shown:literal),* })*) => {
         $(
-            println!("{} {}", $name, size_of::<$type>());
-            $(println!("{}.{} {}", $name, $shown, offset_of!($type, $field));)*
+            const _: () = assert!(size_of::<$type>() == $size);
+            const _: () = assert!($size == 0 $(+ size_of_field(|t: &$type| &t.$field))*);
         )*
+        fn print_layout() {
+            $(
+                println!("{} {}", $name, size_of::<$type>());
+                $(println!("{}.{} {}", $name, $shown, offset_of!($type, $field));)*
+            )*
+        }
     };
 }
 
-fn print_layout() {
-    layout! {
-        "drive" Drive { 0 as "counts" }
-        "microseconds" Microseconds { 0 as "microseconds" }
-        "led_current" LedCurrent { red as "red", green as "green", blue as "blue" }
-        "static_colour" StaticColour { blue as "blue", green as "green", red as "red", last as "last" }
-        "display_setting" DisplaySetting { long_flip as "long_flip", short_flip as "short_flip", rotate as "rotate" }
-        "video_input" VideoInput {
-            x as "x", y as "y", first_pixel as "first_pixel", first_line as "first_line", width as "width", height as "height"
-        }
-        "video_mode" VideoMode { rate as "rate", depth as "depth", led as "led" }
-        "pattern_sequence" PatternSequence {
-            depth as "depth", count as "count", inversion as "inversion", trigger as "trigger", delay as "delay",
-            period as "period", exposure as "exposure", led as "led"
-        }
-        "settings" Settings {
-            mode as "mode", pattern as "pattern", current as "current", colour as "colour", setting as "setting",
-            input as "input", video as "video", sequence as "sequence", run as "run"
-        }
-        "transfer" Transfer { active as "active", cmd1 as "cmd1", cmd2 as "cmd2", held as "held" }
-        "registers" Registers {
-            settings as "settings", transfer as "transfer", header as "header", sum as "sum", received as "received"
-        }
-        "controller" Controller { registers as "registers", buffer as "buffer", hold as "hold" }
-        "receipt" raw::Receipt { refusal as "refusal", complete as "complete", taken as "taken", length as "length" }
-        "emitted" raw::Emitted { refusal as "refusal", length as "length" }
-        "verdict" raw::Verdict {
-            refusal as "refusal", place as "place", trial as "trial", score as "score", settings as "settings"
-        }
+layout! {
+    "drive" Drive, 2 { 0 as "counts" }
+    "microseconds" Microseconds, 4 { 0 as "microseconds" }
+    "led_current" LedCurrent, 6 { red as "red", green as "green", blue as "blue" }
+    "static_colour" StaticColour, 4 { blue as "blue", green as "green", red as "red", last as "last" }
+    "display_setting" DisplaySetting, 4 { long_flip as "long_flip", short_flip as "short_flip", rotate as "rotate" }
+    "video_input" VideoInput, 12 {
+        x as "x", y as "y", first_pixel as "first_pixel", first_line as "first_line", width as "width", height as "height"
     }
+    "video_mode" VideoMode, 4 { rate as "rate", depth as "depth", led as "led" }
+    "pattern_sequence" PatternSequence, 20 {
+        depth as "depth", count as "count", inversion as "inversion", trigger as "trigger", delay as "delay",
+        period as "period", exposure as "exposure", led as "led"
+    }
+    "settings" Settings, 56 {
+        mode as "mode", pattern as "pattern", current as "current", colour as "colour", setting as "setting",
+        input as "input", video as "video", sequence as "sequence", run as "run"
+    }
+    "registers" Registers, 16 {
+        received as "received", held as "held", active as "active", cmd1 as "cmd1", cmd2 as "cmd2", header as "header",
+        sum as "sum"
+    }
+    "controller" Controller, 2120 { settings as "settings", registers as "registers", buffer as "buffer", hold as "hold" }
+    "verdict" raw::Verdict, 80 { place as "place", trial as "trial", score as "score", settings as "settings" }
+}
+
+/// The factory values, written out from document 01.
+const FACTORY: Settings = Settings {
+    mode: 0,
+    pattern: 0,
+    current: LedCurrent { red: Drive(274), green: Drive(274), blue: Drive(274) },
+    colour: StaticColour { blue: 0, green: 0, red: 0, last: 0 },
+    setting: DisplaySetting { long_flip: 0, short_flip: 1, rotate: 0 },
+    input: VideoInput { x: 608, y: 684, first_pixel: 0, first_line: 0, width: 608, height: 684 },
+    video: VideoMode { rate: 60, depth: 8, led: 1 },
+    sequence: PatternSequence {
+        depth: 1,
+        count: 1,
+        inversion: 0,
+        trigger: 0,
+        delay: Microseconds(0),
+        period: Microseconds(0),
+        exposure: Microseconds(0),
+        led: 0,
+    },
+    run: 0,
+};
+
+/// A controller filled with EE is after a reset its fields and nothing else; so is a verdict.
+fn filled() {
+    let registers = Registers { received: 0, held: 0, active: 0, cmd1: 0, cmd2: 0, header: [0; 6], sum: 0 };
+    let fresh = Controller { settings: FACTORY, registers, buffer: [0; HOLD], hold: [0; HOLD] };
+    let wanted: [u8; 2120] = unsafe { transmute(fresh.clone()) };
+    let mut c: Controller = unsafe { transmute([0xEEu8; 2120]) };
+    c.reset();
+    assert_eq!(c, fresh);
+    assert_eq!(unsafe { transmute::<Controller, [u8; 2120]>(c) }, wanted);
+    assert_eq!(Controller::fresh(), fresh);
+
+    let mut v: raw::Verdict = unsafe { transmute([0xEEu8; 80]) };
+    let report = include_bytes!("../../examples/refused.report");
+    assert_eq!(unsafe { raw::imjarlet_check_report(report.as_ptr(), report.len() as u64, &mut v) }, 19);
+    let wanted = raw::Verdict { place: 46, trial: 0, score: 0, settings: FACTORY };
+    let bytes: [[u8; 80]; 2] = unsafe { [transmute(v), transmute(wanted)] };
+    assert_eq!(bytes[0], bytes[1]);
 }
 
 fn main() {
     print_layout();
+    filled();
     let mut head = Controller::fresh();
     let fresh = head.clone();
     let mut out = [0xA5u8; LIST_OUTPUT_LEAST];
-    let mut settings = head.registers.settings;
+    let mut settings = head.settings;
     settings.current.green = Drive(1024);
     settings.sequence.exposure = Microseconds(70_000);
 
@@ -66,7 +113,7 @@ fn main() {
             other => panic!("{other:?}"),
         }
     }
-    assert_eq!(head.registers.settings, settings);
+    assert_eq!(head.settings, settings);
     head.reset();
     assert_eq!(head, fresh);
     for (i, byte) in list[..8].iter().enumerate() {
@@ -77,19 +124,21 @@ fn main() {
 
     // every refusal
     assert_eq!(head.receive(&list, &mut out[..OUTPUT_LEAST - 1]), Err(Refusal::ShortOutput));
-    head.registers.transfer.held = HOLD + 1;
+    head.registers.held = HOLD as u16 + 1;
     assert_eq!(head.receive(&list, &mut out), Err(Refusal::OutOfRule));
     assert_eq!(encode(0x01, 0x04, &settings, &mut out), Ok(13));
     assert_eq!(encode(0x01, 0x05, &settings, &mut out), Err(Refusal::NotAllowed));
     settings.current.green = Drive(1025);
+    settings.run = 256;
+    assert_eq!(encode(0x04, 0x02, &settings, &mut out), Err(Refusal::NotAllowed));
     assert_eq!(encode(0x01, 0x04, &settings, &mut out), Err(Refusal::NotAllowed));
     assert_eq!(standard_list(&settings, &mut list), Err(Refusal::OutOfRule));
     assert_eq!(standard_list(&settings, &mut list[1..]), Err(Refusal::ShortOutput));
     assert_eq!(check_report(&[]), Err(Refused { reason: Reason::CutShort, place: 0 }));
     assert_eq!(check_report(&[0; REPORT_MOST + 1]), Err(Refused { reason: Reason::TooLong, place: 0 }));
     let accepted = check_report(include_bytes!("../../examples/accepted.report")).unwrap();
-    assert_eq!((accepted.trial, accepted.score), (1, 7));
+    assert_eq!((accepted.trial, accepted.score, accepted.settings.mode), (1, 7, 1));
     let refused = check_report(include_bytes!("../../examples/refused.report"));
     assert_eq!(refused, Err(Refused { reason: Reason::OtherSettings, place: 46 }));
-    eprintln!("layout.rs: the wrapper's answers are right");
+    eprintln!("layout.rs: the answers of the Rust view are right");
 }

@@ -26,7 +26,7 @@ use Rattle.command.specs.Judgement.{completes, judge}
 use Rattle.command.specs.Carry.{settingsAfter, transferAfter}
 use Rattle.command.specs.Response.{responseType, codesIn, response}
 use Rattle.command.specs.Player.{State, from, judged, next, judgements, after, endSettings, endClean}
-use Rattle.command.specs.Controller.{stateOf, transferStateAfter, inRule}
+use Rattle.command.specs.Controller.{transferOf, stateOf, transferStateAfter, inRule}
 use Rattle.command.specs.Endpoint.{takenBy, arrivedIn, judgedIn, responseIn, After, answered, receiveCall}
 use Rattle.command.specs.Sending.{Sending, sentTo, Boundary}
 use Rattle.command.specs.Demand1.{Names, Continues, Starts, Completes, FirstFault, UnknownType, UnknownFlags, NoWriteInParts, NoneOpen, OpenForAnother, StillOpen, SettingsOutOfRule, DrawsOn, errorPacket, writeResponseTo, Accepted, Opens, Adds, CarriesOut, Stores, ReadsOut, ErrorSent, acceptedWrites, storeAll, AllBad, NoPacket, BadPacket, Demand1}
@@ -284,17 +284,17 @@ module _ (c : Controller) (input out : List ℕ) where
       let j = judgedIn c received in
       let type : responseType j ≡ error = rw e at b in
       let bytes : responseIn c received ≡ errorPacket (arrivedIn received) (codesIn j) =
-      error-response (c .registers .settings) (arrivedIn received) j (codesIn j) (record { type = type; lists = refl }) in
+      error-response (c .settings) (arrivedIn received) j (codesIn j) (record { type = type; lists = refl }) in
       record {
         codes = codesIn j;
         called = exactly-called (stateOf c .settings .mode) (stateOf c .transfer) (arrivedIn received) (codesIn j) .0 (record { type = type; lists = refl });
         packet = ap (λ (x : After). x .output) e ∙ ap (λ (x : List ℕ). written x out) bytes;
         size = answer-length n m h ∙ ap length bytes;
-        settings = ap (λ (x : After). x .controller .registers .settings) e ∙ error-leaves (c .registers .settings) j type;
-        inactive = ap (λ (x : After). x .controller .registers .transfer .active) e ∙ error-inactive (c .registers .transfer) (arrivedIn received .body) j type;
+        settings = ap (λ (x : After). x .controller .settings) e ∙ error-leaves (c .settings) j type;
+        inactive = ap (λ (x : After). x .controller .registers .active) e ∙ error-inactive (transferOf (c .registers)) (arrivedIn received .body) j type;
         closed =
             ap (λ (x : After). stateOf (x .controller) .transfer) e
-            ∙ rw (error-inactive (c .registers .transfer) (arrivedIn received .body) j type);
+            ∙ rw (error-inactive (transferOf (c .registers)) (arrivedIn received .body) j type);
       }
 
   error-owed : (codes : List ℕ) (n m : ℕ) → receiveCall c input out .answer ≡ Answers n m → DrawsOn (stateOf c) (arrivedIn received) codes
@@ -308,7 +308,7 @@ module _ (c : Controller) (input out : List ℕ) where
       bytes : responseIn c received ≡ errorPacket (arrivedIn received) codes
       bytes =
           unfold responseIn judgedIn in
-          error-response (c .registers .settings) (arrivedIn received) (judge (stateOf c .settings .mode) (stateOf c .transfer) (arrivedIn received)) codes
+          error-response (c .settings) (arrivedIn received) (judge (stateOf c .settings .mode) (stateOf c .transfer) (arrivedIn received)) codes
           (exactly-called (stateOf c .settings .mode) (stateOf c .transfer) (arrivedIn received) codes .1 d)
 
 -- Over whole streams: the settings are the accepted writes alone, stored one after the other.
@@ -331,7 +331,7 @@ bad-stream NoPacket = refl
 bad-stream {a} (BadPacket {q = q} codes d r) = bad-stream r ∙ ap (λ (x : State). x .settings) (bad-leaves a q codes d)
 
 -- so it is on the head to which they are sent
-sent-settings : (c : Controller) (b : List ℕ) (s : Sending b) → Boundary c → sentTo c s .state .registers .settings ≡ after (stateOf c) (packets b) .settings
+sent-settings : (c : Controller) (b : List ℕ) (s : Sending b) → Boundary c → sentTo c s .state .settings ≡ after (stateOf c) (packets b) .settings
 sent-settings c b s k = ap (λ (a : State). a .settings) (follows-played c b s k .ends)
 
 -- settings out of rule are not played

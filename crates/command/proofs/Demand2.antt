@@ -21,7 +21,7 @@ use Rattle.packet.proofs.WriterLaws.{packet-written}
 use Rattle.command.specs.Table.{cmd1For, cmd2For, same, layout, sizeOf, readable}
 use Rattle.command.specs.Settings.{factory, valuesAfter, store}
 use Rattle.command.specs.Rules.{allowed, blocked}
-use Rattle.command.specs.Data.{joinAll, Fit}
+use Rattle.command.specs.Data.{joinAll}
 use Rattle.command.specs.Value.{commandIn, valuesIn, dataIn, dataOf}
 use Rattle.command.specs.Transfer.{Transfer, Closed}
 use Rattle.command.specs.Faults.{Arrived, arrived, wrongCommand, modeFault, listIf, codesOf}
@@ -29,7 +29,7 @@ use Rattle.command.specs.Judgement.{completes, judgeRead, judgeData}
 use Rattle.command.specs.Carry.{settingsAfter, transferAfter}
 use Rattle.command.specs.Response.{responseType, response}
 use Rattle.command.specs.Player.{State, from, judged, next, responses, after}
-use Rattle.command.specs.Controller.{transferIn, stateOf, transferInRule, zeros, fresh}
+use Rattle.command.specs.Controller.{transferOf, transferIn, stateOf, transferInRule, zeros, fresh}
 use Rattle.command.specs.Encoder.{After as Encoding, writePacket, encoded, writes, encodeCall}
 use Rattle.command.specs.Sending.{Sending, sentTo, Ready, Boundary, Idle}
 use Rattle.command.specs.Demand2.{Follows, Legal, atStart, packetBy, acknowledgement, notInMode, readPacket, readAnswer, ReadBack, Blocked, Remade, Demand2}
@@ -42,7 +42,7 @@ use Rattle.command.specs.declared.judgement.Judgement.{Judgement}
 use Rattle.command.specs.declared.judgement.Judgement.the-variants.{Error, Hold, Write, Read}
 use Rattle.command.specs.declared.controller.Controller.{Controller}
 use Rattle.command.proofs.table.Laws.{each, same-eq, fit-length, size-small}
-use Rattle.command.proofs.rules.Laws.{values-store, Writable, kept-factory, in-rule-of}
+use Rattle.command.proofs.rules.Laws.{fit-data, values-store, Writable, kept-factory, in-rule-of}
 use Rattle.command.proofs.data.Laws.{length-join}
 use Rattle.command.proofs.transfer.Laws.{by-transfer}
 use Rattle.command.proofs.judgement.Laws.{judge-cases, Sound, sound}
@@ -79,7 +79,7 @@ is-packet p e =
 
 -- A head with no transfer open.
 
-state-closed : (c : Controller) → Idle c → stateOf c ≡ from (c .registers .settings)
+state-closed : (c : Controller) → Idle c → stateOf c ≡ from (c .settings)
 state-closed c i = rw (i .closed)
 
 none-active : (t : TransferState) (buffer : List ℕ) → transferInRule t ≡ true → transferIn t buffer ≡ Closed → t .active ≡ 0
@@ -98,30 +98,30 @@ left-idle {c} {b} {r} f e g =
         received = ap (λ (x : Receiver). x .received) (f .unfinished ∙ ap (with 0 (f .base)) e ∙ with-nil 0 (f .base)) ∙ f .boundary;
       };
       closed =
-          none-active (r .state .registers .transfer) (r .state .buffer) (rule-parts (r .state .registers) (f .ready .rule) .transfer)
+          none-active (transferOf (r .state .registers)) (r .state .buffer) (rule-parts (r .state .settings) (r .state .registers) (f .ready .rule) .transfer)
           (ap (λ (a : State). a .transfer) (f .ends ∙ g));
     }
 
 -- one whole packet sent to such a head, and judged so that no transfer is opened
 record Once (c : Controller) (p : List ℕ) (j : Judgement) (r : Served Controller (List ℕ)) : Type 0 where
-  given : r .given ≡ response (c .registers .settings) (arrived p) j ∷ []
-  settings : r .state .registers .settings ≡ settingsAfter (c .registers .settings) j
+  given : r .given ≡ response (c .settings) (arrived p) j ∷ []
+  settings : r .state .settings ≡ settingsAfter (c .settings) j
   idle : Idle (r .state)
 
-once : (c : Controller) (p : List ℕ) (s : Sending p) (j : Judgement) → Idle c → IsPacket p → judged (from (c .registers .settings)) p ≡ j
+once : (c : Controller) (p : List ℕ) (s : Sending p) (j : Judgement) → Idle c → IsPacket p → judged (from (c .settings)) p ≡ j
     → transferAfter Closed (arrived p) j ≡ Closed → Once c p j (sentTo c s)
 unfolding responses after next
 once c p s j i k e t =
     let f = follows-played c p s (i .boundary) in
-    let a : after (stateOf c) (packets p) ≡ from (settingsAfter (c .registers .settings) j) =
+    let a : after (stateOf c) (packets p) ≡ from (settingsAfter (c .settings) j) =
     ap₂ after (state-closed c i) (alone p k .0)
-    ∙ ap (λ (x : Judgement). record { settings = settingsAfter (c .registers .settings) x; transfer = transferAfter Closed (arrived p) x }) e
-    ∙ ap (λ (x : Transfer). record { settings = settingsAfter (c .registers .settings) j; transfer = x }) t in
+    ∙ ap (λ (x : Judgement). record { settings = settingsAfter (c .settings) x; transfer = transferAfter Closed (arrived p) x }) e
+    ∙ ap (λ (x : Transfer). record { settings = settingsAfter (c .settings) j; transfer = x }) t in
     record {
       given =
           f .given
           ∙ ap₂ responses (state-closed c i) (alone p k .0)
-          ∙ ap {B = List (List ℕ)} (λ (x : Judgement). response (c .registers .settings) (arrived p) x ∷ []) e;
+          ∙ ap {B = List (List ℕ)} (λ (x : Judgement). response (c .settings) (arrived p) x ∷ []) e;
       settings = ap (λ (x : State). x .settings) (f .ends ∙ a);
       idle = left-idle f (alone p k .1) a;
     }
@@ -133,6 +133,9 @@ unfolding encodeCall
 encodes v out a l = rw (le-ltb (length out) 64 l, a)
 
 module _ (v : Value) (g : Legal v) where
+  full : length (valuesIn v) ≡ length (layout (commandIn v))
+  full = fit-length (layout (commandIn v)) (valuesIn v) (fit-data (commandIn v) (valuesIn v) (g .values) (g .fit))
+
   packet-is : (out : List ℕ) → 64 ≤ length out → packetBy v out ≡ encoded v
   unfolding written
   packet-is out l =
@@ -150,7 +153,7 @@ module _ (v : Value) (g : Legal v) where
   arrives : arrived (encoded v) ≡ plain hostWrite (commandIn v) (dataIn v)
   unfolding encoded writePacket dataIn sizeOf
   arrives =
-      let n = length-join (layout (commandIn v)) (valuesIn v) (fit-length (layout (commandIn v)) (valuesIn v) (g .fit)) in
+      let n = length-join (layout (commandIn v)) (valuesIn v) full in
       arrived-plain hostWrite (commandIn v) (joinAll (layout (commandIn v)) (valuesIn v)) (omega (arith, n, size-small (commandIn v)))
 
 -- the two responses that it can draw, byte by byte
@@ -189,28 +192,28 @@ module _ (v : Value) (out : List ℕ) (g : Legal v) (l : 64 ≤ length out) wher
   acknowledges s = ap (λ (q : Arrived). response s q (Write v)) p-arrives ∙ acknowledged-by (commandIn v)
 
   module _ (c : Controller) (i : Idle c) where
-    read-back : (s : Sending p) → blocked (commandIn v) (valuesIn v) (c .registers .settings .mode) ≡ false → ReadBack v c p (sentTo c s)
+    read-back : (s : Sending p) → blocked (commandIn v) (valuesIn v) (c .settings .mode) ≡ false → ReadBack v c p (sentTo c s)
     read-back s b =
-        let w : judged (from (c .registers .settings)) p ≡ Write v = p-judged (c .registers .settings) ∙ rw b in
+        let w : judged (from (c .settings)) p ≡ Write v = p-judged (c .settings) ∙ rw b in
         let o = once c p s (Write v) i p-packet w refl in
         record {
           judgement = ap (λ (a : State). judged a p) (state-closed c i) ∙ w;
-          given = o .given ∙ ap {B = List (List ℕ)} (λ r. r ∷ []) (acknowledges (c .registers .settings));
+          given = o .given ∙ ap {B = List (List ℕ)} (λ r. r ∷ []) (acknowledges (c .settings));
           settings = o .settings;
           idle = o .idle;
         }
 
-    blocked-back : (s : Sending p) → blocked (commandIn v) (valuesIn v) (c .registers .settings .mode) ≡ true → Blocked c p (sentTo c s)
+    blocked-back : (s : Sending p) → blocked (commandIn v) (valuesIn v) (c .settings .mode) ≡ true → Blocked c p (sentTo c s)
     unfolding response
     blocked-back s b =
-        let w : judged (from (c .registers .settings)) p ≡ Error modeFault = p-judged (c .registers .settings) ∙ rw b in
+        let w : judged (from (c .settings)) p ≡ Error modeFault = p-judged (c .settings) ∙ rw b in
         let o = once c p s (Error modeFault) i p-packet w refl in
         record {
           judgement = ap (λ (a : State). judged a p) (state-closed c i) ∙ w;
           given =
               o .given
-              ∙ ap {B = List (List ℕ)} (λ (q : Arrived). response (c .registers .settings) q (Error modeFault) ∷ []) p-arrives
-              ∙ ap {B = List (List ℕ)} (λ r. r ∷ []) (blocked-run (commandIn v) (valuesIn v) (c .registers .settings .mode) b);
+              ∙ ap {B = List (List ℕ)} (λ (q : Arrived). response (c .settings) q (Error modeFault) ∷ []) p-arrives
+              ∙ ap {B = List (List ℕ)} (λ r. r ∷ []) (blocked-run (commandIn v) (valuesIn v) (c .settings .mode) b);
           settings = o .settings;
           idle = o .idle;
         }
@@ -232,12 +235,12 @@ unfolding dataOf dataIn valuesAfter
 data-store v s h = rw (values-store (commandIn v) (valuesIn v) s h (commandIn v), same-refl (commandIn v))
 
 reads-back : (v : Value) (out : List ℕ) → Legal v → 64 ≤ length out → (c : Controller) (s : Sending (packetBy v out ++ readPacket (commandIn v))) → Idle c
-    → blocked (commandIn v) (valuesIn v) (c .registers .settings .mode) ≡ false → readable (commandIn v) ≡ true
+    → blocked (commandIn v) (valuesIn v) (c .settings .mode) ≡ false → readable (commandIn v) ≡ true
     → sentTo c s .given ≡ acknowledgement (commandIn v) ∷ readAnswer (commandIn v) (dataIn v) ∷ []
 unfolding responses next
 reads-back v out g l c s i b r =
-    let x : Settings = c .registers .settings in
-    let y : Settings = store (commandIn v) (valuesIn v) (c .registers .settings) in
+    let x : Settings = c .settings in
+    let y : Settings = store (commandIn v) (valuesIn v) (c .settings) in
     let p : List ℕ = packetBy v out in
     let q : List ℕ = readPacket (commandIn v) in
     let k : IsPacket (readPacket (commandIn v)) = packet-written hostRead (cmd1For (commandIn v)) (cmd2For (commandIn v)) whole [] (omega arith) in
@@ -251,7 +254,7 @@ reads-back v out g l c s i b r =
     (ap (λ (a : State). responses a (q ∷ [])) stored
     ∙ ap {B = List (List ℕ)} (λ m. m ∷ [])
     (read-answers y (commandIn v) r
-    ∙ ap (readAnswer (commandIn v)) (data-store v x (fit-length (layout (commandIn v)) (valuesIn v) (g .fit)))))
+    ∙ ap (readAnswer (commandIn v)) (data-store v x (full v g))))
 
 -- Every write accepted in one packet.
 
@@ -314,7 +317,7 @@ fresh-idle =
     record {
       boundary = record {
         ready = record {
-          rule = rule-whole _ (record { settings = in-rule-of factory kept-factory; transfer = refl; packet = refl });
+          rule = rule-whole _ _ (record { settings = in-rule-of factory kept-factory; transfer = refl; packet = refl });
           header = refl;
           buffer = refl;
           hold = refl;

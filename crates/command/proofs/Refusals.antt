@@ -17,7 +17,7 @@ use Rattle.command.specs.Table.{table, commandOf, isKnown}
 use Rattle.command.specs.Settings.{valuesOf}
 use Rattle.command.specs.Rules.{allowed, blocked, allAllowed, settingsInRule}
 use Rattle.command.specs.Value.{commandIn, valuesIn}
-use Rattle.command.specs.Controller.{receiverIn, transferInRule, registersInRule, inRule}
+use Rattle.command.specs.Controller.{transferOf, receiverIn, transferInRule, partsInRule, inRule}
 use Rattle.command.specs.Endpoint.{takenBy, responseIn, After, refused, waiting, answered, receiveCall}
 use Rattle.command.specs.Encoder.{encoded, standardList, encodeCall, listCall}
 use Rattle.command.specs.Encoder as encoder
@@ -57,13 +57,13 @@ controller-out c = (forth, back)
   where
     forth : inRule c ≡ false → OutOfRule c
     forth h =
-        unfold registersInRule transferInRule packetInRule in
-        let t = c .registers .transfer in
+        unfold partsInRule transferInRule packetInRule in
+        let t = transferOf (c .registers) in
         let room = 7 + payloadLength (c .registers .header) in
         let unknown = eqb (t .active) 0 || isKnown (commandOf (t .cmd1) (t .cmd2)) in
-        and-cases (settingsInRule (c .registers .settings) && (leb (t .held) 1024 && unknown)) (ltb (c .registers .received) room)
-        (and-cases (settingsInRule (c .registers .settings)) (leb (t .held) 1024 && unknown)
-        (λ n. BadSettings (settings-out (c .registers .settings) .0 n))
+        and-cases (settingsInRule (c .settings) && (leb (t .held) 1024 && unknown)) (ltb (c .registers .received) room)
+        (and-cases (settingsInRule (c .settings)) (leb (t .held) 1024 && unknown)
+        (λ n. BadSettings (settings-out (c .settings) .0 n))
         (and-cases (leb (t .held) 1024) unknown
         (λ n. HeldTooLong (leb-false (t .held) 1024 n))
         (λ n.
@@ -73,13 +73,13 @@ controller-out c = (forth, back)
         h
 
     back : OutOfRule c → inRule c ≡ false
-    back (BadSettings h) = unfold registersInRule in rw (settings-out (c .registers .settings) .1 h)
-    back (HeldTooLong h) = unfold registersInRule transferInRule in rw (lt-leb (c .registers .transfer .held) 1024 h, and-false)
+    back (BadSettings h) = unfold partsInRule in rw (settings-out (c .settings) .1 h)
+    back (HeldTooLong h) = unfold partsInRule transferInRule in rw (lt-leb (c .registers .held) 1024 h, and-false)
     back (OpenForUnknown h k) =
-        unfold registersInRule transferInRule in
-        rw (ne-eqb (c .registers .transfer .active) 0 h, unnamed (c .registers .transfer .cmd1) (c .registers .transfer .cmd2) k, and-false, and-false)
+        unfold partsInRule transferInRule in
+        rw (ne-eqb (c .registers .active) 0 h, unnamed (c .registers .cmd1) (c .registers .cmd2) k, and-false, and-false)
     back (HasAllBytes h) =
-        unfold registersInRule packetInRule in rw (le-ltb (c .registers .received) (7 + payloadLength (c .registers .header)) h, and-false)
+        unfold partsInRule packetInRule in rw (le-ltb (c .registers .received) (7 + payloadLength (c .registers .header)) h, and-false)
 
 -- The receive call.
 pub receive-refuses : (c : Controller) (input out : List ℕ)

@@ -15,6 +15,7 @@ use Rattle.command.specs.Faults.{Arrived}
 use Rattle.command.specs.Player.{State}
 use Rattle.command.specs.declared.table.Found.{Found}
 use Rattle.command.specs.declared.table.Found.the-variants.{Known, Unknown}
+use Rattle.command.specs.declared.settings.Settings.{Settings}
 use Rattle.command.specs.declared.transfer.TransferState.{TransferState}
 use Rattle.command.specs.declared.judgement.Judgement.{Judgement}
 use Rattle.command.specs.declared.judgement.Judgement.the-variants.{Error, Hold, Write, Read}
@@ -22,6 +23,10 @@ use Rattle.command.specs.declared.controller.Registers.{Registers}
 use Rattle.command.specs.declared.controller.Controller.{Controller}
 
 -- The transfer: none is open where `active` is 0.
+
+-- its numbers, among the registers
+abbrev pub transferOf : Registers → TransferState
+transferOf r = record { active = r .active; cmd1 = r .cmd1; cmd2 = r .cmd2; held = r .held }
 
 -- how many bytes are held
 abbrev pub heldIn : TransferState → ℕ
@@ -37,7 +42,7 @@ transferIn t buffer = cond (eqb (t .active) 0) Closed (openedFor (commandOf (t .
 
 -- the state of the head, in document 01's terms: "the settings and one open transfer, its command and held data, or none"
 abbrev pub stateOf : Controller → State
-stateOf c = record { settings = c .registers .settings; transfer = transferIn (c .registers .transfer) (c .buffer) }
+stateOf c = record { settings = c .settings; transfer = transferIn (transferOf (c .registers)) (c .buffer) }
 
 -- the receiver: what has come in of the current packet
 abbrev pub receiverIn : Controller → Receiver
@@ -80,11 +85,11 @@ bufferAfter t buffer body (Read c) = buffer
 unfoldable pub transferInRule : TransferState → Bool
 transferInRule t = leb (t .held) 1024 && (eqb (t .active) 0 || isKnown (commandOf (t .cmd1) (t .cmd2)))
 
-unfoldable pub registersInRule : Registers → Bool
-registersInRule r = settingsInRule (r .settings) && transferInRule (r .transfer) && packetInRule (r .header) (r .received)
+unfoldable pub partsInRule : Settings → Registers → Bool
+partsInRule s r = settingsInRule s && transferInRule (transferOf r) && packetInRule (r .header) (r .received)
 
 abbrev pub inRule : Controller → Bool
-inRule c = registersInRule (c .registers)
+inRule c = partsInRule (c .settings) (c .registers)
 
 -- "an array of 1,024 zeros"
 unfoldable pub zeros : List ℕ
@@ -94,7 +99,8 @@ zeros = replicate 1024 0
 abbrev pub fresh : Controller
 fresh =
     record {
-      registers = record { settings = factory; transfer = noTransfer; header = replicate 6 0; sum = 0; received = 0 };
+      settings = factory;
+      registers = record { received = 0; held = 0; active = 0; cmd1 = 0; cmd2 = 0; header = replicate 6 0; sum = 0 };
       buffer = zeros;
       hold = zeros;
     }

@@ -145,8 +145,8 @@ pub record ErrorSent (c : Controller) (input out : List ℕ) (m : ℕ) : Type 0 
   pub packet : receiveCall c input out .output ≡ written (errorPacket (arrivedIn (takenBy c input)) codes) out
   pub size : m ≡ length (errorPacket (arrivedIn (takenBy c input)) codes)
   -- all settings are as they stood, and no transfer is open
-  pub settings : receiveCall c input out .controller .registers .settings ≡ c .registers .settings
-  pub inactive : receiveCall c input out .controller .registers .transfer .active ≡ 0
+  pub settings : receiveCall c input out .controller .settings ≡ c .settings
+  pub inactive : receiveCall c input out .controller .registers .active ≡ 0
   pub closed : stateOf (receiveCall c input out .controller) .transfer ≡ Closed
 
 -- Over whole streams.
@@ -178,11 +178,11 @@ pub data SettingsOutOfRule (s : Settings) : Type 0 where
 
 -- a controller out of rule: besides,
 pub data OutOfRule (c : Controller) : Type 0 where
-  BadSettings : SettingsOutOfRule (c .registers .settings) → OutOfRule c
+  BadSettings : SettingsOutOfRule (c .settings) → OutOfRule c
   -- over 1,024 held bytes,
-  HeldTooLong : 1024 < c .registers .transfer .held → OutOfRule c
+  HeldTooLong : 1024 < c .registers .held → OutOfRule c
   -- a transfer open for a command not in the table,
-  OpenForUnknown : (c .registers .transfer .active ≡ 0 → ⊥) → ((d : Command) → Names (c .registers .transfer .cmd1) (c .registers .transfer .cmd2) d → ⊥)
+  OpenForUnknown : (c .registers .active ≡ 0 → ⊥) → ((d : Command) → Names (c .registers .cmd1) (c .registers .cmd2) d → ⊥)
       → OutOfRule c
   -- or a half-received packet that already has all its bytes
   HasAllBytes : 7 + payloadLength (c .registers .header) ≤ c .registers .received → OutOfRule c
@@ -212,10 +212,10 @@ pub record Demand1 : Type 0 where
   pub behind : (c : Controller) (input out : List ℕ) (n m : ℕ) → receiveCall c input out .answer ≡ Answers n m → drop m (receiveCall c input out .output) ≡ drop m out
   -- over whole streams, sent to a head in rule at a packet boundary however they were cut, the settings are the accepted writes alone, stored one after the other,
   pub stream : (c : Controller) (b : List ℕ) (s : Sending b) → Boundary c
-      → sentTo c s .state .registers .settings ≡ storeAll (acceptedWrites (judgements (stateOf c) (packets b))) (c .registers .settings)
+      → sentTo c s .state .settings ≡ storeAll (acceptedWrites (judgements (stateOf c) (packets b))) (c .settings)
   -- and packets that are all bad leave all settings as they stood
   pub badStream : (c : Controller) (b : List ℕ) (s : Sending b) → Boundary c → AllBad (stateOf c) (packets b)
-      → sentTo c s .state .registers .settings ≡ c .registers .settings
+      → sentTo c s .state .settings ≡ c .settings
   -- "Every call answers"; "a bad call gets its refusal number and touches nothing lent". The receive call: 1 and 3; else "waiting", all bytes taken, or "answered"
   pub receive : (c : Controller) (input out : List ℕ)
       → let r = receiveCall c input out in

@@ -12,11 +12,11 @@ use Rattle.packet.specs.Number.{Bytes}
 use Rattle.packet.specs.Packet.{typeOf, flagsOf, packetOf, hostRead, writeResponse, readResponse, whole}
 use Rattle.packet.specs.Receiver.{Receiver, with}
 use Rattle.packet.specs.Stream.{packets, rest}
-use Rattle.command.specs.Table.{cmd1For, cmd2For, layout, readable}
+use Rattle.command.specs.Table.{cmd1For, cmd2For, readable}
 use Rattle.command.specs.Settings.{store}
 use Rattle.command.specs.Rules.{allowed, blocked}
 use Rattle.command.specs.Data.{Fit}
-use Rattle.command.specs.Value.{commandIn, valuesIn, dataIn}
+use Rattle.command.specs.Value.{commandIn, valuesIn, widths, dataIn}
 use Rattle.command.specs.Faults.{modeFault}
 use Rattle.command.specs.Player.{judged, responses, after}
 use Rattle.command.specs.Controller.{stateOf, receiverIn, fresh}
@@ -40,9 +40,9 @@ pub record Follows (c : Controller) (b : List ℕ) (r : Served Controller (List 
 
 -- The encoder.
 
--- a legal write: its values are allowed. That they fit is what the types of the code give.
+-- a legal write: its values are allowed. That they fit their widths is what the types of the code give.
 pub record Legal (v : Value) : Type 0 where
-  pub fit : Fit (layout (commandIn v)) (valuesIn v)
+  pub fit : Fit (widths (commandIn v)) (valuesIn v)
   pub values : allowed (commandIn v) (valuesIn v) ≡ true
 
 -- "our own encoder's packet": the bytes at the output's start, as many as the call answers
@@ -72,21 +72,21 @@ readAnswer c d = packetOf readResponse (cmd1For c) (cmd2For c) whole d
 pub record ReadBack (v : Value) (c : Controller) (p : List ℕ) (r : Served Controller (List ℕ)) : Type 0 where
   pub judgement : judged (stateOf c) p ≡ Write v
   pub given : r .given ≡ acknowledgement (commandIn v) ∷ []
-  pub settings : r .state .registers .settings ≡ store (commandIn v) (valuesIn v) (c .registers .settings)
+  pub settings : r .state .settings ≡ store (commandIn v) (valuesIn v) (c .settings)
   pub idle : Idle (r .state)
 
 -- "only run 1 outside mode 4 draws 07 instead", and leaves the settings
 pub record Blocked (c : Controller) (p : List ℕ) (r : Served Controller (List ℕ)) : Type 0 where
   pub judgement : judged (stateOf c) p ≡ Error modeFault
   pub given : r .given ≡ notInMode ∷ []
-  pub settings : r .state .registers .settings ≡ c .registers .settings
+  pub settings : r .state .settings ≡ c .settings
   pub idle : Idle (r .state)
 
 -- "encodes to the bytes it arrived as": the packet p was sent to the head c and carried out as some write, and the encoder writes p for it
 pub record Remade (c : Controller) (p : List ℕ) (r : Served Controller (List ℕ)) : Type 0 where
   pub write : Value
   pub judgement : judged (stateOf c) p ≡ Write write
-  pub settings : r .state .registers .settings ≡ store (commandIn write) (valuesIn write) (c .registers .settings)
+  pub settings : r .state .settings ≡ store (commandIn write) (valuesIn write) (c .settings)
   pub encodes : (out : List ℕ) → 64 ≤ length out → encodeCall write out ≡ writes p out
 
 pub record Demand2 : Type 0 where
@@ -99,12 +99,12 @@ pub record Demand2 : Type 0 where
       → (encodeCall v out ≡ writes (packetBy v out) out) × (packets (packetBy v out) ≡ packetBy v out ∷ [])
   -- "sent to a head with nothing half received and no transfer open, is read back as that same write"
   pub accepted : (v : Value) (out : List ℕ) → Legal v → 64 ≤ length out → (c : Controller) (s : Sending (packetBy v out)) → Idle c
-      → blocked (commandIn v) (valuesIn v) (c .registers .settings .mode) ≡ false → ReadBack v c (packetBy v out) (sentTo c s)
+      → blocked (commandIn v) (valuesIn v) (c .settings .mode) ≡ false → ReadBack v c (packetBy v out) (sentTo c s)
   pub blocks : (v : Value) (out : List ℕ) → Legal v → 64 ≤ length out → (c : Controller) (s : Sending (packetBy v out)) → Idle c
-      → blocked (commandIn v) (valuesIn v) (c .registers .settings .mode) ≡ true → Blocked c (packetBy v out) (sentTo c s)
+      → blocked (commandIn v) (valuesIn v) (c .settings .mode) ≡ true → Blocked c (packetBy v out) (sentTo c s)
   -- a read that follows it answers the data written
   pub reads : (v : Value) (out : List ℕ) → Legal v → 64 ≤ length out → (c : Controller) (s : Sending (packetBy v out ++ readPacket (commandIn v)))
-      → Idle c → blocked (commandIn v) (valuesIn v) (c .registers .settings .mode) ≡ false → readable (commandIn v) ≡ true
+      → Idle c → blocked (commandIn v) (valuesIn v) (c .settings .mode) ≡ false → readable (commandIn v) ≡ true
       → sentTo c s .given ≡ acknowledgement (commandIn v) ∷ readAnswer (commandIn v) (dataIn v) ∷ []
   -- "every write accepted in one packet encodes to the bytes it arrived as": one packet of flags 00 drew a write response
   pub remade : (c : Controller) (p r : List ℕ) (s : Sending p) → Boundary c → Bytes p → packets p ≡ p ∷ [] → flagsOf p ≡ whole

@@ -26,6 +26,16 @@ outcomeOf NotAllowed = Refuses 2
 outcomeOf OutOfRule = Refuses 3
 outcomeOf (Length n) = Writes n
 
+-- the refusal's number, 0 where there is none
+abbrev pub refusalOf : Outcome → ℕ
+refusalOf (Refuses n) = n
+refusalOf (Writes n) = 0
+
+-- the length written, 0 with a refusal
+abbrev pub sizeOf : Outcome → ℕ
+sizeOf (Refuses n) = 0
+sizeOf (Writes n) = n
+
 -- the whole-packet write of a command with its data
 unfoldable pub writePacket : Command → List ℕ → List ℕ
 writePacket c d = packetOf hostWrite (cmd1For c) (cmd2For c) whole d

@@ -1,10 +1,11 @@
 -- The receive call: when it refuses, and what it answers and leaves.
 use Prim.Native.Nat.{ℕ}
+use mathlib.Core.Path.{_≡_}
 use mathlib.Core.Bool.{cond}
 use mathlib.Core.List.{List}
 use lib.Dec.{ltb}
 use lib.ListN.{length, take}
-use Rattle.packet.specs.Answer.{Outcome, Refuses, Waits, Answers}
+use Rattle.packet.specs.Answer.{Outcome, Refuses, Waits, Answers, outcomeOf}
 use Rattle.packet.specs.Packet.{payloadLength}
 use Rattle.packet.specs.Receiver.{Receiver, Received, receiving}
 use Rattle.packet.specs.Writer.{written}
@@ -12,12 +13,13 @@ use Rattle.command.specs.Faults.{Arrived}
 use Rattle.command.specs.Judgement.{judge}
 use Rattle.command.specs.Carry.{settingsAfter}
 use Rattle.command.specs.Response.{response}
-use Rattle.command.specs.Controller.{transferIn, receiverIn, packetIn, transferStateAfter, bufferAfter, inRule}
+use Rattle.command.specs.Controller.{transferOf, transferIn, receiverIn, packetIn, transferStateAfter, bufferAfter, inRule}
 use Rattle.command.specs.declared.settings.Settings.{Settings}
 use Rattle.command.specs.declared.transfer.TransferState.{TransferState}
 use Rattle.command.specs.declared.judgement.Judgement.{Judgement}
 use Rattle.command.specs.declared.controller.Registers.{Registers}
 use Rattle.command.specs.declared.controller.Controller.{Controller}
+use Rattle.command.specs.declared.endpoint.Served.{Served}
 
 -- the bytes taken by the receiver; the checksum covers every byte of a packet, from place 0 on
 abbrev pub takenBy : Controller → List ℕ → Received
@@ -29,21 +31,31 @@ arrivedIn t = packetIn (t .receiver .header) (t .right) (take (payloadLength (t 
 
 -- how it is judged, and what it draws
 unfoldable pub judgedIn : Controller → Received → Judgement
-judgedIn c t = judge (c .registers .settings .mode) (transferIn (c .registers .transfer) (c .buffer)) (arrivedIn t)
+judgedIn c t = judge (c .settings .mode) (transferIn (transferOf (c .registers)) (c .buffer)) (arrivedIn t)
 
 unfoldable pub responseIn : Controller → Received → List ℕ
-responseIn c t = response (c .registers .settings) (arrivedIn t) (judgedIn c t)
+responseIn c t = response (c .settings) (arrivedIn t) (judgedIn c t)
 
--- the registers of these settings, this transfer and this receiver
-abbrev pub registersOf : Settings → TransferState → Receiver → Registers
-registersOf s t r = record { settings = s; transfer = t; header = r .header; sum = r .running; received = r .received }
+-- the registers of this transfer and this receiver
+abbrev pub registersOf : TransferState → Receiver → Registers
+registersOf t r =
+    record {
+      received = r .received;
+      held = t .held;
+      active = t .active;
+      cmd1 = t .cmd1;
+      cmd2 = t .cmd2;
+      header = r .header;
+      sum = r .running;
+    }
 
 -- the judgement carried out
 abbrev pub carriedOut : Controller → Received → Judgement → Controller
 carriedOut c t j =
     record {
-      registers = registersOf (settingsAfter (c .registers .settings) j) (transferStateAfter (c .registers .transfer) (arrivedIn t .body) j) (t .receiver);
-      buffer = bufferAfter (c .registers .transfer) (c .buffer) (arrivedIn t .body) j;
+      settings = settingsAfter (c .settings) j;
+      registers = registersOf (transferStateAfter (transferOf (c .registers)) (arrivedIn t .body) j) (t .receiver);
+      buffer = bufferAfter (transferOf (c .registers)) (c .buffer) (arrivedIn t .body) j;
       hold = t .receiver .hold;
     }
 
@@ -63,7 +75,12 @@ waiting c t out =
     record {
       answer = Waits (t .taken);
       controller =
-          record { registers = registersOf (c .registers .settings) (c .registers .transfer) (t .receiver); buffer = c .buffer; hold = t .receiver .hold };
+          record {
+            settings = c .settings;
+            registers = registersOf (transferOf (c .registers)) (t .receiver);
+            buffer = c .buffer;
+            hold = t .receiver .hold;
+          };
       output = out;
     }
 
@@ -83,3 +100,17 @@ receiveCall c input out =
     (cond (inRule c)
     (cond (takenBy c input .complete) (answered c (takenBy c input) out) (waiting c (takenBy c input) out))
     (refused 3 c out))
+
+-- The call where the controller's arrays are lent apart from its settings and registers.
+
+abbrev pub controllerOf : Settings → Registers → List ℕ → List ℕ → Controller
+controllerOf s r buffer hold = record { settings = s; registers = r; buffer = buffer; hold = hold }
+
+-- what it answers and leaves, by its result and the arrays and the output that it left
+abbrev pub afterOf : Served → List ℕ → List ℕ → List ℕ → After
+afterOf s buffer hold out =
+    record { answer = outcomeOf (s .answer); controller = controllerOf (s .settings) (s .registers) buffer hold; output = out }
+
+-- settings that are not to be stored are those that came in
+abbrev pub keepsUnstored : Settings → Served → Type 0
+keepsUnstored settings s = cond (s .stored) (s .settings) settings ≡ s .settings

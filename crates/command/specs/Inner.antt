@@ -93,10 +93,18 @@ faultsOf c opened ours n type flags size right =
 abbrev pub stateIn : Settings → TransferState → List ℕ → State
 stateIn s t buffer = record { settings = s; transfer = transferIn t buffer }
 
--- A controller whose arrays are lent apart from its registers: the contracts of settle, advance and serve are about it.
-
-abbrev pub controllerOf : Registers → List ℕ → List ℕ → Controller
-controllerOf r buffer hold = record { registers = r; buffer = buffer; hold = hold }
+-- the registers with another transfer: registersOf of it, by computing
+abbrev pub withTransfer : Registers → TransferState → Registers
+withTransfer r t =
+    record {
+      received = r .received;
+      held = t .held;
+      active = t .active;
+      cmd1 = t .cmd1;
+      cmd2 = t .cmd2;
+      header = r .header;
+      sum = r .sum;
+    }
 
 -- what a call answers and leaves once its packet is complete in the receiver, the checksum right or not and n bytes taken (law answers of endpoint/advance)
 abbrev pub settled : Controller → Bool → ℕ → List ℕ → After

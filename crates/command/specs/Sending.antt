@@ -41,4 +41,4 @@ pub record Boundary (c : Controller) : Type 0 where
 -- "with nothing half received and no transfer open"
 pub record Idle (c : Controller) : Type 0 where
   pub boundary : Boundary c
-  pub closed : c .registers .transfer .active ≡ 0
+  pub closed : c .registers .active ≡ 0

@@ -48,6 +48,18 @@ valueFrom VideoMode v = value.VideoMode (videoFrom v)
 valueFrom PatternSequence v = value.PatternSequence (sequenceFrom v)
 valueFrom SequenceRun v = value.SequenceRun (getD v 0 0)
 
+-- the widths of the values in the code's types, in bytes: those of the data, but for four fields that are wider there
+abbrev pub widths : Command → List ℕ
+widths DisplayMode = 1 ∷ []
+widths TestPattern = 1 ∷ []
+widths LedCurrent = 2 ∷ 2 ∷ 2 ∷ []
+widths StaticColour = 1 ∷ 1 ∷ 1 ∷ 1 ∷ []
+widths DisplaySetting = 1 ∷ 1 ∷ 2 ∷ []
+widths VideoInput = 2 ∷ 2 ∷ 2 ∷ 2 ∷ 2 ∷ 2 ∷ []
+widths VideoMode = 1 ∷ 1 ∷ 2 ∷ []
+widths PatternSequence = 1 ∷ 1 ∷ 1 ∷ 1 ∷ 4 ∷ 4 ∷ 4 ∷ 4 ∷ []
+widths SequenceRun = 4 ∷ []
+
 -- the data of a write
 unfoldable pub dataIn : Value → List ℕ
 dataIn v = joinAll (layout (commandIn v)) (valuesIn v)

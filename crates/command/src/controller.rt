@@ -6,23 +6,58 @@ use crate::transfer::HOLD;
 use crate::transfer::TransferState;
 use packet::HEADER;
 ghost use mathlib.Core.Path.{_≡_};
-ghost use Rattle.command.specs.Controller.{fresh as freshOf, registersInRule};
+ghost use Prim.Native.Nat.{_<_};
+ghost use Rattle.command.specs.Controller.{fresh as freshOf, transferOf, partsInRule};
+ghost use Rattle.command.specs.Inner.{withTransfer};
 
-// All of a controller but its two arrays.
+// The packet that is coming in, and the open transfer, but for their bytes. Each field is as wide as
+// the room up to the next one: a record that is lent has no holes.
 #[repr(C)]
 pub struct Registers {
-    pub settings: Settings,
-    pub transfer: TransferState,
+    // How many bytes of the packet have come in.
+    pub received: u32,
+    // How many bytes of the transfer are held.
+    pub held: u16,
+    // The transfer: none is open where `active` is 0. Its command's bytes.
+    pub active: u8,
+    pub cmd1: u8,
+    pub cmd2: u8,
     // The header bytes of the packet that is coming in; between two packets, those of the last one.
     pub header: [u8; HEADER],
     // The sum of the bytes received of it, modulo 256. It begins anew with a packet's first byte.
     pub sum: u8,
-    // How many bytes of it have come in.
-    pub received: usize,
+}
+
+impl Registers {
+    // The open transfer.
+    pub(crate) fn transfer(self) -> TransferState
+        ensures { λ t. ⌜ t ≡ transferOf self ⌝ }
+    {
+        TransferState {
+            active: self.active,
+            cmd1: self.cmd1,
+            cmd2: self.cmd2,
+            held: self.held as usize,
+        }
+    }
+
+    // The same packet, and this transfer.
+    pub(crate) fn with_transfer(self, t: TransferState) -> Registers
+        requires { ⌜ t .held < 65536 ⌝ }
+        ensures { λ r. ⌜ r ≡ withTransfer self t ⌝ }
+    {
+        let mut r = self;
+        r.held = t.held as u16;
+        r.active = t.active;
+        r.cmd1 = t.cmd1;
+        r.cmd2 = t.cmd2;
+        r
+    }
 }
 
 #[repr(C)]
 pub struct Controller {
+    pub settings: Settings,
     pub registers: Registers,
     // The held bytes of the open transfer.
     pub buffer: [u8; HOLD],
@@ -32,12 +67,15 @@ pub struct Controller {
 
 impl Controller {
     pub(crate) const FRESH: Controller = Controller {
+        settings: Settings::FACTORY,
         registers: Registers {
-            settings: Settings::FACTORY,
-            transfer: TransferState::NONE,
+            received: 0,
+            held: 0,
+            active: 0,
+            cmd1: 0,
+            cmd2: 0,
             header: [0; HEADER],
             sum: 0,
-            received: 0,
         },
         buffer: [0; HOLD],
         hold: [0; HOLD],
@@ -52,12 +90,12 @@ impl Controller {
 }
 
 // What refusal 3 lets pass: it does not look at the arrays.
-pub(crate) fn in_rule(r: Registers) -> bool
-    ensures { λ b. ⌜ b ≡ registersInRule r ⌝ }
+pub(crate) fn in_rule(s: Settings, r: Registers) -> bool
+    ensures { λ b. ⌜ b ≡ partsInRule s r ⌝ }
 {
     let header = r.header;
-    let settings = settings_in_rule(r.settings);
-    let transfer = r.transfer.in_rule();
-    let unfinished = packet::packet_in_rule(header, r.received);
+    let settings = settings_in_rule(s);
+    let transfer = r.transfer().in_rule();
+    let unfinished = packet::packet_in_rule(header, r.received as usize);
     settings & transfer & unfinished
 }

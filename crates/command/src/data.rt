@@ -72,6 +72,14 @@ impl Data {
         more
     }
 
+    // The low byte of a number more.
+    pub(crate) fn low(self, n: u32) -> Data
+        requires { ⌜ self .count + 1 ≤ 17 ⌝ }
+        ensures { λ r. ⌜ (contents r ≡ contents self ++ bytesOf 1 n) × (r .count ≡ self .count + 1) ⌝ }
+    {
+        self.byte((n % 256) as u8)
+    }
+
     // A number of two bytes more.
     pub(crate) fn word(self, v: u16) -> Data
         requires { ⌜ self .count + 2 ≤ 17 ⌝ }

@@ -8,6 +8,7 @@ use crate::controller::in_rule;
 use crate::judgement::judge;
 use crate::output::OUTPUT;
 use crate::response::respond;
+use crate::settings::Settings;
 use crate::transfer::HOLD;
 use packet::Answer;
 ghost use mathlib.Core.Path.{_≡_};
@@ -15,13 +16,16 @@ ghost use mathlib.Core.Bool.{true};
 ghost use Prim.Native.Nat.{_≤_, min};
 ghost use lib.ListN.{length};
 ghost use Rattle.packet.specs.Answer.{outcomeOf};
-ghost use Rattle.command.specs.Controller.{transferInRule, registersInRule};
-ghost use Rattle.command.specs.Inner.{controllerOf, settled};
-ghost use Rattle.command.specs.Endpoint.{receiveCall};
+ghost use Rattle.command.specs.Controller.{transferOf, transferInRule, partsInRule};
+ghost use Rattle.command.specs.Inner.{settled};
+ghost use Rattle.command.specs.Endpoint.{receiveCall, controllerOf, afterOf, keepsUnstored};
 
-// The controller's registers afterwards, and the answer.
-pub(crate) struct Served {
+// What a call answers, and the settings and the registers that it leaves.
+pub struct Served {
+    pub settings: Settings,
     pub registers: Registers,
+    // Whether the settings are to be stored: a packet was complete. Otherwise they are as before.
+    pub stored: bool,
     pub answer: Answer,
 }
 
@@ -37,90 +41,99 @@ fn kept(size: usize) -> usize
 
 // A complete packet is judged, the judgement carried out and the response written.
 fn settle(
-    mut r: Registers,
+    settings: Settings,
+    r: Registers,
     buffer: &mut [u8; HOLD],
     hold: &[u8],
     right: bool,
     taken: usize,
     out: &mut [u8],
 ) -> Served
-    requires { ⌜ (transferInRule (r .transfer) ≡ true) × (length (now hold) ≡ 1024) × (64 ≤ length (now out)) ⌝ }
-    ensures { λ s. ⌜ (outcomeOf (s .answer) ≡ settled (controllerOf r (now (buffer .entry)) (now (hold .entry))) right taken (now (out .entry)) .answer)
-        × (controllerOf (s .registers) (now (buffer .exit)) (now (hold .entry)) ≡ settled (controllerOf r (now (buffer .entry)) (now (hold .entry))) right taken (now (out .entry)) .controller)
-        × (now (out .exit) ≡ settled (controllerOf r (now (buffer .entry)) (now (hold .entry))) right taken (now (out .entry)) .output) ⌝ }
+    requires { ⌜ (transferInRule (transferOf r) ≡ true) × (length (now hold) ≡ 1024) × (64 ≤ length (now out)) ⌝ }
+    ensures { λ s. ⌜ (afterOf s (now (buffer .exit)) (now (hold .entry)) (now (out .exit)) ≡ settled (controllerOf settings r (now (buffer .entry)) (now (hold .entry))) right taken (now (out .entry)))
+        × keepsUnstored settings s ⌝ }
 {
     let header = r.header;
     let n = kept(packet::word(header[4], header[5]));
     let payload = &hold[..n];
-    let j = judge(r.settings.mode, r.transfer, header, right, buffer, payload);
-    let length = respond(out, r.settings, header[1], header[2], j);
-    r.settings = settings_after(r.settings, j);
-    r.transfer = transfer_after(r.transfer, buffer, payload, j);
+    let t = r.transfer();
+    let j = judge(settings.mode, t, header, right, buffer, payload);
+    let length = respond(out, settings, header[1], header[2], j);
+    let after = settings_after(settings, j);
+    let transfer = transfer_after(t, buffer, payload, j);
     Served {
-        registers: r,
+        settings: after,
+        registers: r.with_transfer(transfer),
+        stored: true,
         answer: Answer::Answered { taken, length },
     }
 }
 
 // A call that is not refused.
 fn advance(
+    settings: Settings,
     mut r: Registers,
     buffer: &mut [u8; HOLD],
     hold: &mut [u8; HOLD],
     input: &[u8],
     out: &mut [u8],
 ) -> Served
-    requires { ⌜ (registersInRule r ≡ true) × (64 ≤ length (now out)) ⌝ }
-    ensures { λ s. ⌜ (outcomeOf (s .answer) ≡ receiveCall (controllerOf r (now (buffer .entry)) (now (hold .entry))) (now (input .entry)) (now (out .entry)) .answer)
-        × (controllerOf (s .registers) (now (buffer .exit)) (now (hold .exit)) ≡ receiveCall (controllerOf r (now (buffer .entry)) (now (hold .entry))) (now (input .entry)) (now (out .entry)) .controller)
-        × (now (out .exit) ≡ receiveCall (controllerOf r (now (buffer .entry)) (now (hold .entry))) (now (input .entry)) (now (out .entry)) .output) ⌝ }
+    requires { ⌜ (partsInRule settings r ≡ true) × (64 ≤ length (now out)) ⌝ }
+    ensures { λ s. ⌜ (afterOf s (now (buffer .exit)) (now (hold .exit)) (now (out .exit)) ≡ receiveCall (controllerOf settings r (now (buffer .entry)) (now (hold .entry))) (now (input .entry)) (now (out .entry)))
+        × keepsUnstored settings s ⌝ }
 {
     let mut header = r.header;
     let t = packet::receive(
         &mut header,
         r.sum,
-        r.received,
+        r.received as usize,
         hold,
         packet::CHECKSUM_FROM,
         input,
     );
     r.header = header;
     r.sum = t.sum;
-    r.received = t.received;
+    r.received = t.received as u32;
     if !t.complete {
         return Served {
+            settings,
             registers: r,
+            stored: false,
             answer: Answer::Waiting(t.taken),
         };
     }
-    settle(r, buffer, hold, t.right, t.taken, out)
+    settle(settings, r, buffer, hold, t.right, t.taken, out)
 }
 
-// The call: it refuses, or goes on.
-pub(crate) fn serve(
+// The call where a controller's arrays are lent apart from the rest: it refuses, or goes on.
+pub fn serve(
+    settings: Settings,
     r: Registers,
     buffer: &mut [u8; HOLD],
     hold: &mut [u8; HOLD],
     input: &[u8],
     out: &mut [u8],
 ) -> Served
-    ensures { λ s. ⌜ (outcomeOf (s .answer) ≡ receiveCall (controllerOf r (now (buffer .entry)) (now (hold .entry))) (now (input .entry)) (now (out .entry)) .answer)
-        × (controllerOf (s .registers) (now (buffer .exit)) (now (hold .exit)) ≡ receiveCall (controllerOf r (now (buffer .entry)) (now (hold .entry))) (now (input .entry)) (now (out .entry)) .controller)
-        × (now (out .exit) ≡ receiveCall (controllerOf r (now (buffer .entry)) (now (hold .entry))) (now (input .entry)) (now (out .entry)) .output) ⌝ }
+    ensures { λ s. ⌜ (afterOf s (now (buffer .exit)) (now (hold .exit)) (now (out .exit)) ≡ receiveCall (controllerOf settings r (now (buffer .entry)) (now (hold .entry))) (now (input .entry)) (now (out .entry)))
+        × keepsUnstored settings s ⌝ }
 {
     if out.len() < OUTPUT {
         return Served {
+            settings,
             registers: r,
+            stored: false,
             answer: Answer::ShortOutput,
         };
     }
-    if !in_rule(r) {
+    if !in_rule(settings, r) {
         return Served {
+            settings,
             registers: r,
+            stored: false,
             answer: Answer::OutOfRule,
         };
     }
-    advance(r, buffer, hold, input, out)
+    advance(settings, r, buffer, hold, input, out)
 }
 
 // An answer, and the controller afterwards.
@@ -137,11 +150,13 @@ pub fn receive(c: Controller, input: &[u8], out: &mut [u8]) -> Step
 {
     let mut buffer = c.buffer;
     let mut hold = c.hold;
-    let s = serve(c.registers, &mut buffer, &mut hold, input, out);
+    let s = serve(c.settings, c.registers, &mut buffer, &mut hold, input, out);
+    let settings = s.settings;
     let registers = s.registers;
     let answer = s.answer;
     Step {
         controller: Controller {
+            settings,
             registers,
             buffer,
             hold,

@@ -32,13 +32,14 @@ pub use encoder::Encoded;
 pub use encoder::LIST_OUTPUT;
 pub use encoder::encode;
 pub use encoder::standard_list;
+pub use endpoint::Served;
 pub use endpoint::Step;
 pub use endpoint::receive;
+pub use endpoint::serve;
 pub use output::OUTPUT;
 pub use player::Played;
 pub use player::play;
 pub use transfer::HOLD;
-pub use transfer::TransferState;
 
 // The commands and their values.
 pub use settings::DisplaySetting;

@@ -107,7 +107,7 @@ fn pattern_sequence(q: PatternSequence) -> bool
 }
 
 // 04 02
-fn sequence_run(r: u8) -> bool
+fn sequence_run(r: u32) -> bool
     ensures { λ a. ⌜ a ≡ allowedIn command.SequenceRun (r ∷ []) ⌝ }
 {
     r <= 1

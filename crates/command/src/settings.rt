@@ -38,7 +38,7 @@ pub struct StaticColour {
 pub struct DisplaySetting {
     pub long: u8,
     pub short: u8,
-    pub rotate: u8,
+    pub rotate: u16,
 }
 
 // 02 00
@@ -57,7 +57,7 @@ pub struct VideoInput {
 pub struct VideoMode {
     pub rate: u8,
     pub depth: u8,
-    pub led: u8,
+    pub led: u16,
 }
 
 // 04 00
@@ -70,10 +70,11 @@ pub struct PatternSequence {
     pub delay: Microseconds,
     pub period: Microseconds,
     pub exposure: Microseconds,
-    pub led: u8,
+    pub led: u32,
 }
 
-// The values of every command in the table.
+// The values of every command in the table. Each field, here and in the parts, is as wide as the room
+// up to the next one: a record that is lent has no holes.
 #[repr(C)]
 pub struct Settings {
     // 01 01 display mode
@@ -93,7 +94,7 @@ pub struct Settings {
     // 04 00 pattern sequence
     pub sequence: PatternSequence,
     // 04 02 sequence run
-    pub run: u8,
+    pub run: u32,
 }
 
 impl Settings {

@@ -1,4 +1,4 @@
-// The open transfer, as the controller has it: numbers alone, which mean something whatever they are.
+// The open transfer: numbers alone, which mean something whatever they are.
 use crate::table::Command;
 ghost use mathlib.Core.Path.{_≡_};
 ghost use Rattle.command.specs.Controller.{heldIn, transferInRule};
@@ -8,7 +8,6 @@ pub const HOLD: usize = 1024;
 
 // An open transfer: its command's bytes, and how many bytes of it are held. None is open where
 // `active` is 0.
-#[repr(C)]
 pub struct TransferState {
     pub active: u8,
     pub cmd1: u8,

@@ -32,7 +32,7 @@ pub enum Value {
     VideoInput(VideoInput),
     VideoMode(VideoMode),
     PatternSequence(PatternSequence),
-    SequenceRun(u8),
+    SequenceRun(u32),
 }
 
 // What reading a command's data finds.
@@ -93,7 +93,7 @@ fn from(c: Command, d: &[u8]) -> Value
         Command::VideoInput => Value::VideoInput(input_in(d)),
         Command::VideoMode => Value::VideoMode(video_in(d)),
         Command::PatternSequence => Value::PatternSequence(sequence_in(d)),
-        Command::SequenceRun => Value::SequenceRun(byte_at(d, 0)),
+        Command::SequenceRun => Value::SequenceRun(byte_at(d, 0) as u32),
     }
 }
 
@@ -110,7 +110,7 @@ pub(crate) fn data_of(v: Value) -> Data
         Value::VideoInput(q) => input_data(q),
         Value::VideoMode(q) => video_data(q),
         Value::PatternSequence(q) => sequence_data(q),
-        Value::SequenceRun(r) => Data::EMPTY.byte(r),
+        Value::SequenceRun(r) => Data::EMPTY.low(r),
     }
 }
 
@@ -165,14 +165,14 @@ fn setting_in(d: &[u8]) -> DisplaySetting
     DisplaySetting {
         long: byte_at(d, 0),
         short: byte_at(d, 1),
-        rotate: byte_at(d, 2),
+        rotate: byte_at(d, 2) as u16,
     }
 }
 
 fn setting_data(q: DisplaySetting) -> Data
     ensures { λ r. ⌜ Holds r (joinOnto [] (layout command.DisplaySetting) (settingValues q)) ⌝ }
 {
-    Data::EMPTY.byte(q.long).byte(q.short).byte(q.rotate)
+    Data::EMPTY.byte(q.long).byte(q.short).low(q.rotate as u32)
 }
 
 // 02 00: X, Y, first pixel, first line, width, height.
@@ -210,14 +210,14 @@ fn video_in(d: &[u8]) -> VideoMode
     VideoMode {
         rate: byte_at(d, 0),
         depth: byte_at(d, 1),
-        led: byte_at(d, 2),
+        led: byte_at(d, 2) as u16,
     }
 }
 
 fn video_data(q: VideoMode) -> Data
     ensures { λ r. ⌜ Holds r (joinOnto [] (layout command.VideoMode) (videoValues q)) ⌝ }
 {
-    Data::EMPTY.byte(q.rate).byte(q.depth).byte(q.led)
+    Data::EMPTY.byte(q.rate).byte(q.depth).low(q.led as u32)
 }
 
 // 04 00: depth, count, inversion, trigger, delay, period, exposure, LED.
@@ -233,7 +233,7 @@ fn sequence_in(d: &[u8]) -> PatternSequence
         delay: Microseconds(long_at(d, 4)),
         period: Microseconds(long_at(d, 8)),
         exposure: Microseconds(long_at(d, 12)),
-        led: byte_at(d, 16),
+        led: byte_at(d, 16) as u32,
     }
 }
 
@@ -248,5 +248,5 @@ fn sequence_data(q: PatternSequence) -> Data
         .long(q.delay.0)
         .long(q.period.0)
         .long(q.exposure.0)
-        .byte(q.led)
+        .low(q.led)
 }

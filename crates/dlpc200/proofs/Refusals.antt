@@ -14,9 +14,8 @@ use Rattle.packet.specs.Receiver.{packetInRule}
 use Rattle.packet.proofs.Cases.{bool-cases, cond-cases, and-cases}
 use Rattle.packet.proofs.Answering.{answering, refusal-number, answers-not-refused, waits-not-refused, all-taken}
 use Rattle.dlpc200.specs.Packet.{afterCmd4}
-use Rattle.dlpc200.specs.Receiver.{framedBy, receiving}
 use Rattle.dlpc200.specs.States.{inRange}
-use Rattle.dlpc200.specs.Device.{inRule}
+use Rattle.dlpc200.specs.Device.{inRule, receiverOf, receiving}
 use Rattle.dlpc200.specs.Endpoint.{responseIn, After, refused, ended, receiveCall}
 use Rattle.dlpc200.specs.Request1.{OutOfRange, ParkOut, SequenceOut, EepromOut, FlashOut, LitOut, OutOfRule, BadState, HasAllBytes}
 use Rattle.dlpc200.specs.declared.states.States.{States}
@@ -55,27 +54,27 @@ device-out d = (forth, back)
   where
     forth : inRule d ≡ false → OutOfRule d
     forth h =
-        and-cases (inRange (d .states)) (ltb (d .receiver .received) (7 + payloadLength (d .receiver .header)))
+        and-cases (inRange (d .states)) (ltb (d .received) (7 + payloadLength (d .header)))
         (λ n. BadState (states-out (d .states) .0 n))
-        (λ n. HasAllBytes (ltb-false (d .receiver .received) (7 + payloadLength (d .receiver .header)) n))
+        (λ n. HasAllBytes (ltb-false (d .received) (7 + payloadLength (d .header)) n))
         h
 
     back : OutOfRule d → inRule d ≡ false
     back (BadState h) = rw (states-out (d .states) .1 h)
-    back (HasAllBytes h) = rw (le-ltb (d .receiver .received) (7 + payloadLength (d .receiver .header)) h, and-false)
+    back (HasAllBytes h) = rw (le-ltb (d .received) (7 + payloadLength (d .header)) h, and-false)
 
 pub receive-refuses : (d : Device) (input out : List ℕ)
     → let r = receiveCall d input out in
-    let t = receiving (d .receiver) input in
+    let t = receiving d input in
     Answering (λ n. r .answer ≡ Refuses n) out 64 3 (OutOfRule d) ((r .device ≡ d) × (r .output ≡ out))
     (r .answer ≡ cond (t .complete) (Answers (t .taken) (length (responseIn (d .states) t))) (Waits (length input)))
 unfolding receiveCall
 receive-refuses d input out =
-    let t = receiving (d .receiver) input in
+    let t = receiving d input in
     answering (λ (x : After) n. x .answer ≡ Refuses n) (λ x. (x .device ≡ d) × (x .output ≡ out))
     (λ x. x .answer ≡ cond (t .complete) (Answers (t .taken) (length (responseIn (d .states) t))) (Waits (length input))) (refused 1 d out) (refused 3 d out)
     (ended (d .states) t out) out 64 3
     (λ n. refusal-number 1 n) (λ n. refusal-number 3 n)
     (λ n. cond-cases (λ (x : After). x .answer ≡ Refuses n → ⊥) (t .complete) (λ _ h. answers-not-refused h) (λ _ h. waits-not-refused h))
     (λ h. omega arith) (refl, refl) (refl, refl)
-    (bool-cases (t .complete) (λ e. rw e) (λ e. rw (e, all-taken afterCmd4 (framedBy (d .receiver)) input e))) (inRule d) (device-out d)
+    (bool-cases (t .complete) (λ e. rw e) (λ e. rw (e, all-taken afterCmd4 (receiverOf d) input e))) (inRule d) (device-out d)

@@ -1,6 +1,7 @@
 -- Ticket 1.
 use Prim.Native.Nat.{ℕ}
-use mathlib.Core.Path.{_≡_, refl, ap, sym, _∙_}
+use mathlib.Core.Path.{_≡_, refl, ap, sym, subst, _∙_}
+use mathlib.Core.Logic.{_⊎_}
 use mathlib.Core.List.{List, [], _∷_, _++_, append-nil}
 use native.Mathlib.Omega.{arith}
 use lib.Dec.{ltb}
@@ -16,10 +17,10 @@ use Rattle.packet.proofs.StreamLaws.{IsPacket, packets-nil, packets-cons}
 use Rattle.dlpc200.specs.Packet.{readResp, packetOf}
 use Rattle.dlpc200.specs.States.{parkAfter, inRange}
 use Rattle.dlpc200.specs.Status.{noFaults, faultsHeld}
+use Rattle.dlpc200.specs.Response.{responseType, response}
 use Rattle.dlpc200.specs.Playing.{judged, answerTo, next, responses, after}
-use Rattle.dlpc200.specs.Receiver.{receiving}
-use Rattle.dlpc200.specs.Device.{deviceWith, inRule}
-use Rattle.dlpc200.specs.Endpoint.{judgedIn, responseIn, After, answered, receiveCall}
+use Rattle.dlpc200.specs.Device.{deviceWith, inRule, receiving}
+use Rattle.dlpc200.specs.Endpoint.{arrivedIn, judgedIn, responseIn, After, answered, receiveCall}
 use Rattle.dlpc200.specs.Sending.{serves, Ready, Boundary}
 use Rattle.dlpc200.specs.Request1.{UnknownCommand, ReadAfter, OthersStay, OutOfRange, Request1}
 use Rattle.dlpc200.specs.declared.table.Command.{Command}
@@ -29,7 +30,7 @@ use Rattle.dlpc200.specs.declared.device.Device.{Device}
 use Rattle.dlpc200.proofs.Playing.{failed-leaves, all-failed-leave, failed-answer, done-answer, faults-counted, others-stay, reads-leave, read-after}
 use Rattle.dlpc200.proofs.judgement.Laws.{cmd3-not-judged}
 use Rattle.dlpc200.proofs.Faults.{hold-same, failed-exactly, done-exactly}
-use Rattle.dlpc200.proofs.response.Laws.{response-whole, response-front}
+use Rattle.dlpc200.proofs.response.Laws.{response-whole, response-length, response-front}
 use Rattle.dlpc200.proofs.Refusals.{states-out, receive-refuses}
 use Rattle.dlpc200.proofs.endpoint.Laws.{rule-by, sum-begins, any-output}
 use Rattle.dlpc200.proofs.endpoint.Following.{follows-sent}
@@ -54,7 +55,7 @@ begins-so s h =
           record {
             rule = bool-cases (inRange s) (λ e. rule-by (deviceWith s) e (omega arith)) (λ e. absurd (h (states-out s .0 e)));
             header = refl;
-            id = refl;
+            hold = refl;
           };
       received = refl;
     }
@@ -62,7 +63,7 @@ begins-so s h =
 -- A call on a device of any values: what it leaves where it completes no packet, the states that it never changes, and its output where it completes a packet.
 module _ (d : Device) (input out : List ℕ) where
   abbrev received : Received
-  received = receiving (d .receiver) input
+  received = receiving d input
 
   left-waiting : (n : ℕ) → receiveCall d input out .answer ≡ Waits n
       → (receiveCall d input out .output ≡ out) × (receiveCall d input out .device .states ≡ d .states)
@@ -113,6 +114,12 @@ module _ (d : Device) (input out : List ℕ) where
       rw (answers-by n m h, answer-length n m h)
       (take-at r (drop (length r) out) (length r) refl, drop-at r (drop (length r) out) (length r) refl)
 
+  response-sized : (n m : ℕ) → receiveCall d input out .answer ≡ Answers n m → (m ≡ 9) ⊎ (m ≡ 10)
+  unfolding responseIn response
+  response-sized n m h =
+      subst (λ (k : ℕ). (k ≡ 9) ⊎ (k ≡ 10)) (sym (answer-length n m h))
+      (response-length (d .states) (responseType (arrivedIn received .cmd1)) (judgedIn received))
+
 pub request-1 : Request1
 request-1 =
     record {
@@ -138,5 +145,6 @@ request-1 =
       sum = sum-begins;
       waits = left-waiting;
       behind = response-written;
+      sized = response-sized;
       refuses = receive-refuses;
     }

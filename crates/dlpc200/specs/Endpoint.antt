@@ -9,15 +9,14 @@ use Rattle.packet.specs.Packet.{payloadLength}
 use Rattle.packet.specs.Writer.{written}
 use Rattle.packet.specs.Receiver.{Received}
 use Rattle.dlpc200.specs.Packet.{cmd1Of, cmd2Of, cmd4Of}
-use Rattle.dlpc200.specs.Receiver.{receiverOf, receiving}
 use Rattle.dlpc200.specs.Judgement.{Arrived, commandIn, judge, statesAfter}
 use Rattle.dlpc200.specs.Response.{response}
 use Rattle.dlpc200.specs.declared.judgement.Judgement.{Judgement}
 use Rattle.dlpc200.specs.declared.states.States.{States}
 use Rattle.dlpc200.specs.declared.device.Device.{Device}
-use Rattle.dlpc200.specs.Device.{inRule}
+use Rattle.dlpc200.specs.Device.{inRule, deviceOf, receiving}
 
--- the packet that is complete in a receiver, its checksum right or not; of its data the first two bytes are held
+-- the packet that is complete in a receiver, its checksum right or not; of its data the first four bytes are held
 abbrev pub arrivedIn : Received → Arrived
 arrivedIn t =
     let header = t .receiver .header in
@@ -49,14 +48,14 @@ refused n d out = record { answer = Refuses n; device = d; output = out }
 
 -- "waiting": all bytes taken, output untouched
 abbrev pub waiting : States → Received → List ℕ → After
-waiting s t out = record { answer = Waits (t .taken); device = record { states = s; receiver = receiverOf (t .receiver) }; output = out }
+waiting s t out = record { answer = Waits (t .taken); device = deviceOf s (t .receiver); output = out }
 
 -- "answered": the response at the output's start, the rest untouched
 abbrev pub answered : States → Received → List ℕ → After
 answered s t out =
     record {
       answer = Answers (t .taken) (length (responseIn s t));
-      device = record { states = statesAfter s (judgedIn t); receiver = receiverOf (t .receiver) };
+      device = deviceOf (statesAfter s (judgedIn t)) (t .receiver);
       output = written (responseIn s t) out;
     }
 
@@ -67,4 +66,4 @@ ended s t out = cond (t .complete) (answered s t out) (waiting s t out)
 -- "calls keep 1, then 3": an output shorter than 64 bytes, then a device out of rule
 unfoldable pub receiveCall : Device → List ℕ → List ℕ → After
 receiveCall d input out =
-    cond (ltb (length out) 64) (refused 1 d out) (cond (inRule d) (ended (d .states) (receiving (d .receiver) input) out) (refused 3 d out))
+    cond (ltb (length out) 64) (refused 1 d out) (cond (inRule d) (ended (d .states) (receiving d input) out) (refused 3 d out))

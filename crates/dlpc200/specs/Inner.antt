@@ -6,14 +6,14 @@ use mathlib.Core.List.{List}
 use Rattle.packet.specs.Packet.{payloadLength}
 use Rattle.packet.specs.Receiver.{Received as PacketReceived}
 use Rattle.dlpc200.specs.Packet.{cmd1Of, cmd2Of, cmd4Of}
-use Rattle.dlpc200.specs.Receiver.{framedBy}
+use Rattle.dlpc200.specs.Device.{receiverOf}
 use Rattle.dlpc200.specs.Judgement.{Arrived, commandIn}
 use Rattle.dlpc200.specs.declared.table.Found.{Found}
-use Rattle.dlpc200.specs.declared.receiver.Received.{Received}
+use Rattle.dlpc200.specs.declared.device.Received.{Received}
 
--- what the code's receiver took, as the packet layer's definitions have it: the contract of `receive` in src/receiver.rt says that it is `receiving`
+-- what the code's device took, as the packet layer's definitions have it: the contract of `take` in src/device.rt says that it is `receiving`
 abbrev pub receivedBy : Received → PacketReceived
-receivedBy t = record { taken = t .taken; complete = t .complete; right = t .right; receiver = framedBy (t .receiver) }
+receivedBy t = record { taken = t .taken; complete = t .complete; right = t .right; receiver = receiverOf (t .device) }
 
 -- the packet of this command and header, and a checksum that was right or not
 abbrev pub arrivedOf : Found → List ℕ → Bool → Arrived

@@ -6,11 +6,9 @@ pub mod Status
 pub mod Judgement
 pub mod Response
 pub mod Playing
-pub mod Receiver
 pub mod Device
 pub mod Endpoint
 pub mod Sending
 pub mod Request1
-pub mod Exports
 pub mod Examples
 pub mod Inner

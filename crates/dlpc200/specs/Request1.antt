@@ -2,7 +2,7 @@
 -- equations and orders.
 use Prim.Native.Nat.{ℕ, _+_, _<_, _≤_}
 use mathlib.Core.Path.{_≡_}
-use mathlib.Core.Logic.{_↔_}
+use mathlib.Core.Logic.{_↔_, _⊎_}
 use mathlib.Core.Bool.{true, cond}
 use mathlib.Core.List.{List, [], _∷_, _++_}
 use lib.ListN.{length, getD, take, drop}
@@ -18,8 +18,7 @@ use Rattle.dlpc200.specs.Status.{anyFault, noFaults, data0, data1, fault
 use Rattle.dlpc200.specs.Judgement.{arrived}
 use Rattle.dlpc200.specs.Response.{responseType}
 use Rattle.dlpc200.specs.Playing.{judged, answerTo, next, responses, after}
-use Rattle.dlpc200.specs.Receiver.{framedBy, receiving}
-use Rattle.dlpc200.specs.Device.{deviceWith, inRule}
+use Rattle.dlpc200.specs.Device.{deviceWith, inRule, receiverOf, receiving}
 use Rattle.dlpc200.specs.Endpoint.{responseIn, receiveCall}
 use Rattle.dlpc200.specs.Sending.{Sending, sentTo, Ready, Boundary}
 use Rattle.dlpc200.specs.declared.table.Command.{Command}
@@ -36,7 +35,7 @@ pub record Follows (d : Device) (b : List ℕ) (r : Served Device (List ℕ)) : 
   pub ends : r .state .states ≡ after (d .states) (packets b)
   pub base : PacketReceiver
   pub boundary : base .received ≡ 0
-  pub unfinished : framedBy (r .state .receiver) ≡ with afterCmd4 base (rest b)
+  pub unfinished : receiverOf (r .state) ≡ with afterCmd4 base (rest b)
   pub ready : Ready (r .state)
 
 -- The faults of a packet, by equations and orders: of the rules only the table's columns are cited.
@@ -107,11 +106,7 @@ pub record OthersStay (s t : States) : Type 0 where
 -- The sum.
 
 abbrev pub withSum : Device → ℕ → Device
-withSum d n =
-    record {
-      states = d .states;
-      receiver = record { header = d .receiver .header; id = d .receiver .id; sum = n; received = d .receiver .received };
-    }
+withSum d n = record { received = d .received; header = d .header; hold = d .hold; sum = n; states = d .states }
 
 -- Refusals.
 
@@ -126,7 +121,7 @@ pub data OutOfRange (s : States) : Type 0 where
 -- a device out of rule: "a state out of range or a half-received packet that has all its bytes"
 pub data OutOfRule (d : Device) : Type 0 where
   BadState : OutOfRange (d .states) → OutOfRule d
-  HasAllBytes : 7 + payloadLength (d .receiver .header) ≤ d .receiver .received → OutOfRule d
+  HasAllBytes : 7 + payloadLength (d .header) ≤ d .received → OutOfRule d
 
 pub record Request1 : Type 0 where
   -- "framed by the length field": the calls on a stream give what judging its packets gives, and no more,
@@ -173,19 +168,21 @@ pub record Request1 : Type 0 where
   pub sum : (d : Device) (n : ℕ) (b out : List ℕ)
       → 64 ≤ length out
       → inRule d ≡ true
-      → d .receiver .received ≤ afterCmd4
-      → afterCmd4 < d .receiver .received + length b
+      → d .received ≤ afterCmd4
+      → afterCmd4 < d .received + length b
       → receiveCall (withSum d n) b out ≡ receiveCall d b out
   -- "waiting": a call that completes no packet leaves the output and the states, whatever the device
   pub waits : (d : Device) (input out : List ℕ) (n : ℕ) → receiveCall d input out .answer ≡ Waits n
       → (receiveCall d input out .output ≡ out) × (receiveCall d input out .device .states ≡ d .states)
   -- "answered": the output begins with the response to the packet that arrived, as long as the answer says, and stays as it was behind it, whatever the device
   pub behind : (d : Device) (input out : List ℕ) (n m : ℕ) → receiveCall d input out .answer ≡ Answers n m
-      → (take m (receiveCall d input out .output) ≡ responseIn (d .states) (receiving (d .receiver) input))
+      → (take m (receiveCall d input out .output) ≡ responseIn (d .states) (receiving d input))
       × (drop m (receiveCall d input out .output) ≡ drop m out)
+  -- the size of a response is the two status bytes in a packet, or those and a state: never 0, which is the size that a call tells where there is none (`sizeOf`)
+  pub sized : (d : Device) (input out : List ℕ) (n m : ℕ) → receiveCall d input out .answer ≡ Answers n m → (m ≡ 9) ⊎ (m ≡ 10)
   -- "calls keep 1, then 3"; else "waiting", all bytes taken, or "answered"
   pub refuses : (d : Device) (input out : List ℕ)
       → let r = receiveCall d input out in
-      let t = receiving (d .receiver) input in
+      let t = receiving d input in
       Answering (λ n. r .answer ≡ Refuses n) out 64 3 (OutOfRule d) ((r .device ≡ d) × (r .output ≡ out))
       (r .answer ≡ cond (t .complete) (Answers (t .taken) (length (responseIn (d .states) t))) (Waits (length input)))

@@ -29,10 +29,10 @@ sentTo d s = sent serves d s
 -- a device in rule; its arrays have the lengths that their types give
 pub record Ready (d : Device) : Type 0 where
   pub rule : inRule d ≡ true
-  pub header : length (d .receiver .header) ≡ 6
-  pub id : length (d .receiver .id) ≡ 2
+  pub header : length (d .header) ≡ 6
+  pub hold : length (d .hold) ≡ 4
 
 -- with nothing half received, whatever its arrays and its sum hold
 pub record Boundary (d : Device) : Type 0 where
   pub ready : Ready d
-  pub received : d .receiver .received ≡ 0
+  pub received : d .received ≡ 0

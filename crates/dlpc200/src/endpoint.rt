@@ -1,10 +1,9 @@
 // The receive call: host bytes in, a response out, the device handed back.
 use crate::device::Device;
+use crate::device::Received;
 use crate::judgement::judge;
 use crate::judgement::states_after;
-use crate::receiver::Received;
 use crate::response::respond;
-use crate::states::States;
 use packet::Answer;
 ghost use mathlib.Core.Path.{_≡_};
 ghost use Prim.Native.Nat.{_≤_};
@@ -22,21 +21,22 @@ pub struct Step {
     pub answer: Answer,
 }
 
-// A packet that is complete, as the receiver took it: it is judged and answered.
-fn complete(s: States, t: Received, out: &mut [u8]) -> Step
+// A packet that is complete, as the device took it: it is judged and answered.
+fn complete(t: Received, out: &mut [u8]) -> Step
     requires { ⌜ 64 ≤ length (now out) ⌝ }
-    ensures { λ r. ⌜ (outcomeOf (r .answer) ≡ answered s (receivedBy t) (now (out .entry)) .answer)
-        × (r .device ≡ answered s (receivedBy t) (now (out .entry)) .device)
-        × (now (out .exit) ≡ answered s (receivedBy t) (now (out .entry)) .output) ⌝ }
+    ensures { λ r. ⌜ (outcomeOf (r .answer) ≡ answered (t .device .states) (receivedBy t) (now (out .entry)) .answer)
+        × (r .device ≡ answered (t .device .states) (receivedBy t) (now (out .entry)) .device)
+        × (now (out .exit) ≡ answered (t .device .states) (receivedBy t) (now (out .entry)) .output) ⌝ }
 {
-    let receiver = t.receiver;
-    let header = receiver.header;
-    let id = receiver.id;
-    let j = judge(header, id, t.right);
-    let length = respond(out, header[0], s, j);
-    let states = states_after(s, j);
+    let mut device = t.device;
+    let header = device.header;
+    let hold = device.hold;
+    let states = device.states;
+    let j = judge(header, hold, t.right);
+    let length = respond(out, header[0], states, j);
+    device.states = states_after(states, j);
     Step {
-        device: Device { states, receiver },
+        device,
         answer: Answer::Answered {
             taken: t.taken,
             length,
@@ -62,18 +62,13 @@ pub fn receive(d: Device, input: &[u8], out: &mut [u8]) -> Step
             answer: Answer::OutOfRule,
         };
     }
-    let states = d.states;
-    let receiver = d.receiver;
-    let t = receiver.receive(input);
+    let t = d.take(input);
     if t.complete {
-        return complete(states, t, out);
+        return complete(t, out);
     }
-    let received = t.receiver;
+    let device = t.device;
     Step {
-        device: Device {
-            states,
-            receiver: received,
-        },
+        device,
         answer: Answer::Waiting(t.taken),
     }
 }

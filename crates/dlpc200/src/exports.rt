@@ -1,97 +1,64 @@
-// The calls for C and Rust. An enum does not cross, so an answer is told as numbers.
+// The calls for C and Rust. Neither an enum nor a record by value crosses: a record is lent, and an
+// answer is told as numbers.
 use crate::device::Device;
 use crate::states::States;
-use packet::Answer;
 ghost use mathlib.Core.Path.{_≡_};
+ghost use Rattle.packet.specs.Answer.{refusalOf, takenOf, sizeOf};
 ghost use Rattle.dlpc200.specs.Device.{deviceWith};
-ghost use Rattle.packet.specs.Answer.{outcomeOf};
 ghost use Rattle.dlpc200.specs.Endpoint.{receiveCall};
 ghost use Rattle.dlpc200.specs.Status.{faultBits};
-ghost use Rattle.dlpc200.specs.Exports.{replyOf};
 
-// An answer as numbers: kind 0 is "waiting" (taken), 1 "answered" (taken, and the size
-// of the response) and 2 a refusal (its number).
-#[repr(C)]
-pub struct Reply {
-    pub kind: u8,
-    pub number: u8,
-    pub taken: usize,
-    pub size: usize,
+// The device after a call, and the refusal's number.
+struct Stepped {
+    device: Device,
+    refusal: u32,
 }
 
-// An answer, and the device afterwards.
-#[repr(C)]
-pub struct Stepped {
-    pub device: Device,
-    pub reply: Reply,
-}
-
-// An answer as numbers.
-fn as_reply(a: Answer) -> Reply
-    ensures { λ r. ⌜ r ≡ replyOf (outcomeOf a) ⌝ }
-{
-    match a {
-        Answer::Waiting(n) => Reply {
-            kind: 0,
-            number: 0,
-            taken: n,
-            size: 0,
-        },
-        Answer::Answered { taken, length } => Reply {
-            kind: 1,
-            number: 0,
-            taken,
-            size: length,
-        },
-        Answer::ShortOutput => Reply {
-            kind: 2,
-            number: 1,
-            taken: 0,
-            size: 0,
-        },
-        Answer::OutOfRule => Reply {
-            kind: 2,
-            number: 3,
-            taken: 0,
-            size: 0,
-        },
-    }
-}
-
-// A device between two packets, with the states that the host supplies.
-#[no_mangle]
-pub extern "C" fn dlpc200_device(states: States) -> Device
-    ensures { λ r. ⌜ r ≡ deviceWith states ⌝ }
-{
-    Device::with(states)
-}
-
-// Takes bytes until the input ends or one packet is complete.
-#[no_mangle]
-pub extern "C" fn dlpc200_step(device: Device, input: &[u8], out: &mut [u8]) -> Stepped
+// The receive call with its answer told as numbers.
+fn step(device: Device, input: &[u8], out: &mut [u8], taken: &mut u64, size: &mut u64) -> Stepped
     ensures { λ r. ⌜ (r .device ≡ receiveCall device (now (input .entry)) (now (out .entry)) .device)
-        × (r .reply ≡ replyOf (receiveCall device (now (input .entry)) (now (out .entry)) .answer))
+        × (r .refusal ≡ refusalOf (receiveCall device (now (input .entry)) (now (out .entry)) .answer))
+        × (now (taken .exit) ≡ takenOf (receiveCall device (now (input .entry)) (now (out .entry)) .answer))
+        × (now (size .exit) ≡ sizeOf (receiveCall device (now (input .entry)) (now (out .entry)) .answer))
         × (now (out .exit) ≡ receiveCall device (now (input .entry)) (now (out .entry)) .output) ⌝ }
 {
     let s = crate::endpoint::receive(device, input, out);
     let after = s.device;
     let answer = s.answer;
+    let refusal = packet::told(answer, taken, size);
     Stepped {
         device: after,
-        reply: as_reply(answer),
+        refusal,
     }
 }
 
-// The same on a device that the caller lends.
+// A device between two packets, with the states that the host supplies.
 #[no_mangle]
-pub extern "C" fn dlpc200_receive(device: &mut Device, input: &[u8], out: &mut [u8]) -> Reply
+pub extern "C" fn dlpc200_reset(device: &mut Device, states: &States) -> u32
+    ensures { λ r. ⌜ (now (device .exit) ≡ deviceWith (now (states .entry))) × (r ≡ 0) ⌝ }
+{
+    *device = Device::with(*states);
+    0
+}
+
+// Takes bytes until the input ends or one packet is complete.
+#[no_mangle]
+pub extern "C" fn dlpc200_receive(
+    device: &mut Device,
+    input: &[u8],
+    out: &mut [u8],
+    taken: &mut u64,
+    size: &mut u64,
+) -> u32
     ensures { λ r. ⌜ (now (device .exit) ≡ receiveCall (now (device .entry)) (now (input .entry)) (now (out .entry)) .device)
-        × (r ≡ replyOf (receiveCall (now (device .entry)) (now (input .entry)) (now (out .entry)) .answer))
+        × (r ≡ refusalOf (receiveCall (now (device .entry)) (now (input .entry)) (now (out .entry)) .answer))
+        × (now (taken .exit) ≡ takenOf (receiveCall (now (device .entry)) (now (input .entry)) (now (out .entry)) .answer))
+        × (now (size .exit) ≡ sizeOf (receiveCall (now (device .entry)) (now (input .entry)) (now (out .entry)) .answer))
         × (now (out .exit) ≡ receiveCall (now (device .entry)) (now (input .entry)) (now (out .entry)) .output) ⌝ }
 {
-    let s = crate::endpoint::receive(*device, input, out);
+    let s = step(*device, input, out, taken, size);
     *device = s.device;
-    as_reply(s.answer)
+    s.refusal
 }
 
 // How many faults a response carries beside bit 6, by its Data[0] and Data[1].

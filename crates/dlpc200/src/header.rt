@@ -6,6 +6,9 @@ pub(crate) const AFTER_CMD4: usize = 4;
 // The data of a packet: its ID, Data[0] and Data[1], and nothing else for the commands here.
 pub(crate) const ID_SIZE: usize = 2;
 
+// How many data bytes are held: the ID, and two where a command's first parameter would stand.
+pub(crate) const HOLD: usize = 4;
+
 pub(crate) const DATA_LIMIT: usize = 504;
 
 // CMD1 of what the host sends.

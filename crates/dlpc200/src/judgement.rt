@@ -1,6 +1,7 @@
 // How a complete packet is judged, and what a judgement changes.
 use crate::header::DATA_LIMIT;
 use crate::header::EXTENDED;
+use crate::header::HOLD;
 use crate::header::ID_SIZE;
 use crate::header::ONLY;
 use crate::header::READ;
@@ -23,14 +24,14 @@ pub(crate) enum Judgement {
     Done(Command),
 }
 
-// The command of a packet with this header, these being its first two data bytes.
-fn command_in(header: [u8; HEADER], id: [u8; ID_SIZE]) -> Found
-    ensures { λ r. ⌜ r ≡ commandIn (payloadLength header) id ⌝ }
+// The command of a packet with this header, these being its first data bytes.
+fn command_in(header: [u8; HEADER], hold: [u8; HOLD]) -> Found
+    ensures { λ r. ⌜ r ≡ commandIn (payloadLength header) hold ⌝ }
 {
     if packet::word(header[4], header[5]) < ID_SIZE {
         return Found::Unknown;
     }
-    Command::find(packet::word(id[0], id[1]))
+    Command::find(packet::word(hold[0], hold[1]))
 }
 
 // CMD1 is neither 02 nor 04, or the wrong one for its command.
@@ -68,11 +69,11 @@ fn faults_in(found: Found, header: [u8; HEADER], right: bool) -> Faults
     }
 }
 
-// A complete packet: its header, its first two data bytes, and whether its checksum was right.
-pub(crate) fn judge(header: [u8; HEADER], id: [u8; ID_SIZE], right: bool) -> Judgement
-    ensures { λ r. ⌜ r ≡ judgeOf (arrivedBy header id right) ⌝ }
+// A complete packet: its header, its first data bytes, and whether its checksum was right.
+pub(crate) fn judge(header: [u8; HEADER], hold: [u8; HOLD], right: bool) -> Judgement
+    ensures { λ r. ⌜ r ≡ judgeOf (arrivedBy header hold right) ⌝ }
 {
-    let found = command_in(header, id);
+    let found = command_in(header, hold);
     let faults = faults_in(found, header, right);
     if faults.any() {
         return Judgement::Failed(faults);

@@ -7,8 +7,7 @@
 //   status     the faults of a packet, and the two status bytes of its response
 //   judgement  how a complete packet is judged, and what that changes
 //   response   writing the response
-//   receiver   taking packets from a stream
-//   device     the states and the receiver
+//   device     the current packet and the states; taking packets from a stream
 //   endpoint   the receive call
 //   exports    the calls for C and Rust
 mod device;
@@ -16,7 +15,6 @@ mod endpoint;
 mod exports;
 mod header;
 mod judgement;
-mod receiver;
 mod response;
 mod states;
 mod status;
@@ -25,12 +23,8 @@ mod table;
 pub use device::Device;
 pub use endpoint::Step;
 pub use endpoint::receive;
-pub use exports::Reply;
-pub use exports::Stepped;
-pub use exports::dlpc200_device;
 pub use exports::dlpc200_faults;
 pub use exports::dlpc200_receive;
-pub use exports::dlpc200_step;
-pub use receiver::Receiver;
+pub use exports::dlpc200_reset;
 pub use states::States;
 pub use status::fault_count;

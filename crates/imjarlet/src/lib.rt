@@ -1,19 +1,17 @@
-// The boundary to C and Rust: the calls of the crates below with answers as numbers, since an enum
-// does not cross.
+// The boundary to C and Rust, the same on every processor: what a caller lends are pointers and
+// numbers, what a call answers is a refusal's number, 0 where there is none. Records that are lent
+// have fields of fixed width and no holes.
 //
-//   receipt  a head at power-up, and the receive call over a controller that the caller lends
-//   emitted  the encoder and the standard shipping list
-//   verdict  the answer to a tuning report
-mod emitted;
-mod receipt;
+//   endpoint  a head at power-up, and the receive call over a controller that the caller lends
+//   encoder   the encoder and the standard shipping list
+//   verdict   the answer to a tuning report
+mod encoder;
+mod endpoint;
 mod verdict;
 
-pub use emitted::Emitted;
-pub use emitted::head_encode;
-pub use emitted::head_standard_list;
-pub use receipt::Receipt;
-pub use receipt::head_fresh;
-pub use receipt::head_receive;
-pub use receipt::head_reset;
+pub use encoder::imjarlet_encode;
+pub use encoder::imjarlet_standard_list;
+pub use endpoint::imjarlet_receive;
+pub use endpoint::imjarlet_reset;
 pub use verdict::Verdict;
-pub use verdict::head_check_report;
+pub use verdict::imjarlet_check_report;

@@ -4,54 +4,70 @@ use report::Checked;
 use report::Outcome;
 ghost use mathlib.Core.Path.{_≡_};
 ghost use Rattle.report.specs.Verdict.{verdictIn};
-ghost use Rattle.report.specs.Report.{verdict as verdictOn};
-ghost use Rattle.report.specs.Claim.{Demand3};
-ghost use Rattle.imjarlet.specs.Answers.{verdictOf, toldBy};
+ghost use Rattle.imjarlet.specs.Boundary.{verdictOf, refusalIn, Judges};
 
 #[repr(C)]
 pub struct Verdict {
-    // 0: the report is accepted. Otherwise the refusal's number.
-    pub refusal: u8,
     // Where the refusal is; 0 with an accepted report.
-    pub place: usize,
+    pub place: u64,
     // The trial that the report names; with a refusal 0.
-    pub trial: usize,
+    pub trial: u64,
     // Its score; with a refusal 0.
-    pub score: usize,
+    pub score: u64,
     // The settings that it ended with; with a refusal the factory values.
     pub settings: Settings,
 }
 
+// A verdict, and the refusal's number.
+struct Judged {
+    verdict: Verdict,
+    refusal: u32,
+}
+
 // An answer as numbers.
-fn verdict_of(c: Checked) -> Verdict
-    ensures { λ v. ⌜ v ≡ verdictOf (verdictIn (c .trial) (c .score) (c .settings)) ⌝ }
+fn told(c: Checked) -> Judged
+    ensures { λ j. ⌜ (j .verdict ≡ verdictOf (verdictIn (c .trial) (c .score) (c .settings)))
+        × (j .refusal ≡ refusalIn (verdictIn (c .trial) (c .score) (c .settings))) ⌝ }
 {
     let trial = c.trial;
     match trial {
         Outcome::Value(k) => {
             let settings = c.settings;
-            Verdict {
+            Judged {
+                verdict: Verdict {
+                    place: 0,
+                    trial: k as u64,
+                    score: c.score as u64,
+                    settings,
+                },
                 refusal: 0,
-                place: 0,
-                trial: k,
-                score: c.score,
-                settings,
             }
         }
-        Outcome::Refused { number, place } => Verdict {
-            refusal: number,
-            place,
-            trial: 0,
-            score: 0,
-            settings: Settings::factory(),
+        Outcome::Refused { number, place } => Judged {
+            verdict: Verdict {
+                place: place as u64,
+                trial: 0,
+                score: 0,
+                settings: Settings::factory(),
+            },
+            refusal: number as u32,
         },
     }
 }
 
+// The verdict on a report.
+fn judge(report: &[u8]) -> Judged
+    ensures { λ j. ⌜ Judges (now (report .entry)) (j .refusal) (j .verdict) ⌝ }
+{
+    told(report::check(report))
+}
+
 // Whether the settings that the report ships are those of its best trial.
 #[no_mangle]
-pub extern "C" fn head_check_report(report: &[u8]) -> Verdict
-    ensures { λ v. ⌜ (v ≡ verdictOf (verdictOn (now (report .entry)))) × Demand3 (now (report .entry)) (toldBy v) ⌝ }
+pub extern "C" fn imjarlet_check_report(report: &[u8], verdict: &mut Verdict) -> u32
+    ensures { λ r. ⌜ Judges (now (report .entry)) r (now (verdict .exit)) ⌝ }
 {
-    verdict_of(report::check(report))
+    let j = judge(report);
+    *verdict = j.verdict;
+    j.refusal
 }

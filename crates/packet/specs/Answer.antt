@@ -2,8 +2,10 @@
 use Prim.Native.Nat.{ℕ, _<_, _≤_}
 use mathlib.Core.Path.{_≡_}
 use mathlib.Core.Logic.{_↔_, _⊎_}
+use mathlib.Core.Bool.{cond}
 use mathlib.Core.List.{List}
 use mathlib.Core.Option.{Option, none, some}
+use lib.Dec.{eqb}
 use lib.ListN.{length, take}
 use Rattle.packet.specs.declared.answer.Answer.{Answer}
 use Rattle.packet.specs.declared.answer.Answer.the-variants.{Waiting, Answered, ShortOutput, OutOfRule}
@@ -25,6 +27,22 @@ abbrev pub takenOf : Outcome → ℕ
 takenOf (Refuses n) = 0
 takenOf (Waits n) = n
 takenOf (Answers n m) = n
+
+-- the refusal's number, 0 where there is none
+abbrev pub refusalOf : Outcome → ℕ
+refusalOf (Refuses n) = n
+refusalOf (Waits n) = 0
+refusalOf (Answers n m) = 0
+
+-- the response's length, 0 where there is none
+abbrev pub sizeOf : Outcome → ℕ
+sizeOf (Refuses n) = 0
+sizeOf (Waits n) = 0
+sizeOf (Answers n m) = m
+
+-- what these three numbers say: a refusal; "waiting" where there is no response; "answered"
+abbrev pub outcomeTold : ℕ → ℕ → ℕ → Outcome
+outcomeTold refusal taken size = cond (eqb refusal 0) (cond (eqb size 0) (Waits taken) (Answers taken size)) (Refuses refusal)
 
 abbrev pub responseOf : Outcome → List ℕ → Option (List ℕ)
 responseOf (Refuses n) out = none

@@ -22,6 +22,7 @@ mod writer;
 mod answer;
 
 pub use answer::Answer;
+pub use answer::told;
 pub use bytes::store;
 pub use number::word;
 pub use packet::BEGINNING;

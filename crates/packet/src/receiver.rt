@@ -7,7 +7,7 @@ use crate::number::word;
 use crate::packet::FRAME;
 use crate::packet::HEADER;
 ghost use mathlib.Core.Path.{_≡_};
-ghost use Prim.Native.Nat.{_-_};
+ghost use Prim.Native.Nat.{_-_, _≤_, max};
 ghost use lib.ListN.{drop};
 ghost use lib.Seq.{sets};
 ghost use Rattle.packet.specs.Receiver.{runningWith, receiverOf, receivedOf, receiving, packetInRule};
@@ -50,7 +50,8 @@ fn keep(hold: &mut [u8], received: usize, b: &[u8])
 
 // Takes bytes until the input ends or one packet is complete, on the parts of a receiver. The
 // checksum covers the packet's bytes from place `first` on. Payload bytes that find no room in the
-// hold are counted, summed and dropped.
+// hold are counted, summed and dropped. No packet has more than 65,541 bytes before its last, so
+// that the count never grows past that.
 pub fn receive(
     header: &mut [u8; HEADER],
     sum: u8,
@@ -59,7 +60,8 @@ pub fn receive(
     first: usize,
     input: &[u8],
 ) -> Taken
-    ensures { λ t. ⌜ receivedOf t (now (header .exit)) (now (hold .exit)) ≡ receiving first (receiverOf (now (header .entry)) sum received (now (hold .entry))) (now (input .entry)) ⌝ }
+    ensures { λ t. ⌜ (receivedOf t (now (header .exit)) (now (hold .exit)) ≡ receiving first (receiverOf (now (header .entry)) sum received (now (hold .entry))) (now (input .entry)))
+        × (t .received ≤ max received 65541) ⌝ }
 {
     store(header, received, input);
     // How many bytes come before the checksum, and how many of these the input has. The header may

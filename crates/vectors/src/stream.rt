@@ -41,13 +41,13 @@ fn respond(said: Said, a: Answer, out: &[u8]) -> Said {
 }
 
 // The data of an open transfer stands at the start of its buffer.
-fn transfer(said: Said, t: command::TransferState, buffer: &[u8]) -> Said {
-    if t.active == 0 {
+fn transfer(said: Said, r: command::Registers, buffer: &[u8]) -> Said {
+    if r.active == 0 {
         return said;
     }
-    let code = [t.cmd1, t.cmd2];
+    let code = [r.cmd1, r.cmd2];
     said.bytes(b"\ntransfer ", &code, 2)
-        .bytes(b" ", buffer, t.held)
+        .bytes(b" ", buffer, r.held as usize)
 }
 
 fn finish(said: Said, c: Controller) -> Said {
@@ -55,9 +55,9 @@ fn finish(said: Said, c: Controller) -> Said {
     let registers = c.registers;
     let buffer = c.buffer;
     let received = unfinished.hex(registers.received as u64);
-    let told = transfer(received, registers.transfer, &buffer);
+    let told = transfer(received, registers, &buffer);
     let mut list = [0u8; command::LIST_OUTPUT];
-    match command::standard_list(registers.settings, &mut list) {
+    match command::standard_list(c.settings, &mut list) {
         command::Encoded::Length(length) => told.bytes(b"\nlist ", &list, length),
         _ => told,
     }

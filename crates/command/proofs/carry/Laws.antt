@@ -1,5 +1,5 @@
 -- Carrying out a judgement by the controller's numbers: it is what document 01 says of the transfer, and the transfer stays in rule.
-use Prim.Native.Nat.{ℕ, _+_, _≤_}
+use Prim.Native.Nat.{ℕ, _+_, _<_, _≤_}
 use mathlib.Core.Path.{_≡_, refl, ap, sym, _∙_}
 use mathlib.Core.Bool.{true}
 use mathlib.Core.List.{List, _++_}
@@ -18,7 +18,7 @@ use Rattle.command.specs.declared.transfer.TransferState.{TransferState}
 use Rattle.command.specs.declared.judgement.Judgement.{Judgement}
 use Rattle.command.specs.declared.judgement.Judgement.the-variants.{Error, Hold, Write, Read}
 use Rattle.command.proofs.table.Laws.{found}
-use Rattle.command.proofs.transfer.Laws.{fits-hold, held-is}
+use Rattle.command.proofs.transfer.Laws.{fits-hold, count-most, held-most, held-is}
 use Rattle.command.proofs.judgement.Laws.{judge-cases}
 
 -- A transfer that is added to keeps within 1,024 bytes.
@@ -50,6 +50,13 @@ transfer-kept t body n (Error k) l r b = refl
 transfer-kept t body n (Hold c) l r b = rw (le-leb (heldIn t + length body) 1024 (omega arith), found c)
 transfer-kept t body n (Write v) l r b = refl
 transfer-kept t body n (Read c) l r b = r
+
+-- the count of held bytes fits its field, whatever the judgement
+pub count-fits : (t : TransferState) (body : List ℕ) (j : Judgement) → transferInRule t ≡ true → length body ≤ 1024 → transferStateAfter t body j .held < 65536
+count-fits t body (Error k) r l = omega arith
+count-fits t body (Hold c) r l = omega (arith, held-most t r)
+count-fits t body (Write v) r l = omega arith
+count-fits t body (Read c) r l = omega (arith, count-most t r)
 
 pub buffer-kept : (t : TransferState) (buffer body : List ℕ) (j : Judgement) → length (bufferAfter t buffer body j) ≡ length buffer
 buffer-kept t buffer body (Error k) = refl

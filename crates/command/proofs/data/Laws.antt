@@ -1,5 +1,5 @@
 -- Laws of data laid out in fields: what is cited of splitAll and joinAll, and of the code's forms of them.
-use Prim.Native.Nat.{ℕ, suc, _≤_, zero, _+_, _*_}
+use Prim.Native.Nat.{ℕ, suc, _<_, _≤_, zero, _+_, _*_, _^_}
 use mathlib.Core.Path.{_≡_, refl, ap, ap₂, sym, _∙_}
 use mathlib.Core.List.{List, [], _∷_, _++_, append-nil, append-assoc}
 use native.Mathlib.Nat.{add-zero}
@@ -45,6 +45,14 @@ fit-split [] d h l = tt
 fit-split (w ∷ ws) d h l =
     let e : length (take w d) ≡ w = length-take-le w d (omega arith) in
     (rw e at (value-bound (take w d) (bytes-take w d h)), fit-split ws (drop w d) (bytes-drop w d h) (simp length-drop (omega arith)))
+
+-- numbers that fit, where the last field gets another width
+pub fit-last : (ws : List ℕ) (w u : ℕ) (vs : List ℕ) → (getD vs (length ws) 0 < 256 ^ w → getD vs (length ws) 0 < 256 ^ u) → Fit (ws ++ w ∷ []) vs → Fit (ws ++ u ∷ []) vs
+fit-last [] w u [] h f = absurd f
+fit-last [] w u (v ∷ []) h f = (h (f .0), tt)
+fit-last [] w u (v ∷ x ∷ vs) h f = absurd (f .1)
+fit-last (y ∷ ws) w u [] h f = absurd f
+fit-last (y ∷ ws) w u (v ∷ vs) h f = (f .0, fit-last ws w u vs h (f .1))
 
 -- data of the right size are made again from the numbers that were read
 pub join-split : (ws d : List ℕ) → Bytes d → length d ≡ sum ws → joinAll ws (splitAll ws d) ≡ d

@@ -16,7 +16,7 @@ use Rattle.command.specs.Table.{cmd1For, cmd2For, commandOf, isKnown, ca
 use Rattle.command.specs.Settings.{store}
 use Rattle.command.specs.Rules.{allowed, blocked}
 use Rattle.command.specs.Data.{joinAll, Fit}
-use Rattle.command.specs.Value.{commandIn, valuesIn, valueFrom, dataIn}
+use Rattle.command.specs.Value.{commandIn, valuesIn, valueFrom, widths, dataIn}
 use Rattle.command.specs.Transfer.{Transfer, Closed, Opened, isOpen, held, openFor}
 use Rattle.command.specs.Inner.{faultsOf}
 use Rattle.command.specs.Faults.{Arrived, arrived, wrongCommand, tooLong, wrongOrder, faults, anyFault, modeFault}
@@ -30,6 +30,7 @@ use Rattle.command.specs.declared.settings.Settings.{Settings}
 use Rattle.command.specs.declared.value.Value.{Value}
 use Rattle.command.specs.declared.judgement.Judgement.the-variants.{Error, Write}
 use Rattle.command.proofs.table.Laws.{fit-length, found, known-code, size-small}
+use Rattle.command.proofs.rules.Laws.{fit-data}
 use Rattle.command.proofs.data.Laws.{split-join, length-join, join-split}
 use Rattle.command.proofs.value.Laws.{command-from, values-from, value-from}
 use Rattle.command.proofs.transfer.Laws.{faultless}
@@ -58,18 +59,21 @@ module _ (type : ℕ) (c : Command) (d : List ℕ) (w : wrongCommand (Known c) t
   pub judge-plain : (mode : ℕ) → judge mode Closed (arrived (packetOf type (cmd1For c) (cmd2For c) whole d)) ≡ judgeData c mode type whole d
   judge-plain mode = rw (arrived-plain type c d (omega arith)) (alone mode)
 
--- Values that fit and are allowed.
-module _ (c : Command) (v : List ℕ) (f : Fit (layout c) v) (a : allowed c v ≡ true) where
+-- Values of the code's types that are allowed.
+module _ (c : Command) (v : List ℕ) (f : Fit (widths c) v) (a : allowed c v ≡ true) where
+  fit : Fit (layout c) v
+  fit = fit-data c v a f
+
   length-data : length (joinAll (layout c) v) ≡ sizeOf c
   unfolding sizeOf
-  length-data = length-join (layout c) v (fit-length (layout c) v f)
+  length-data = length-join (layout c) v (fit-length (layout c) v fit)
 
   -- the packet of a legal write is judged as that write; only run 1 outside mode 4 draws 07 instead
   pub judged-write : (mode : ℕ) → judge mode Closed (arrived (writePacket c (joinAll (layout c) v))) ≡ cond (blocked c v mode) (Error modeFault) (Write (valueFrom c v))
   unfolding writePacket wrongCommand judgeData judgeWrite
   judged-write mode =
       judge-plain hostWrite c (joinAll (layout c) v) refl (omega (arith, length-data, size-small c)) mode
-      ∙ rw (eq-eqb (length (joinAll (layout c) v)) (sizeOf c) length-data, split-join (layout c) v f, a)
+      ∙ rw (eq-eqb (length (joinAll (layout c) v)) (sizeOf c) length-data, split-join (layout c) v fit, a)
 
   pub write-packet : IsPacket (writePacket c (joinAll (layout c) v))
   unfolding writePacket
@@ -81,10 +85,10 @@ module _ (c : Command) (v : List ℕ) (f : Fit (layout c) v) (a : allowed c v �
   unfolding judged next
   next-write s b =
       let e : judge (s .mode) Closed (arrived (writePacket c (joinAll (layout c) v))) ≡ Write (valueFrom c v) = judged-write (s .mode) ∙ rw b in
-      (e, rw (e, command-from c v, values-from c v (fit-length (layout c) v f)))
+      (e, rw (e, command-from c v, values-from c v (fit-length (layout c) v fit)))
 
 -- Demand 2: our own encoder's packet for a legal write, on a head with no transfer open, is judged as that same write; only run 1 outside mode 4 draws 07 instead.
-pub encoder-judged : (v : Value) (s : Settings) → Fit (layout (commandIn v)) (valuesIn v) → allowed (commandIn v) (valuesIn v) ≡ true
+pub encoder-judged : (v : Value) (s : Settings) → Fit (widths (commandIn v)) (valuesIn v) → allowed (commandIn v) (valuesIn v) ≡ true
     → IsPacket (encoded v) × (judged (from s) (encoded v) ≡ cond (blocked (commandIn v) (valuesIn v) (s .mode)) (Error modeFault) (Write v))
 unfolding encoded dataIn judged
 encoder-judged v s f a = (

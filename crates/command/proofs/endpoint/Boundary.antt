@@ -25,7 +25,7 @@ use Rattle.command.specs.Judgement.{judgeAs, judge}
 use Rattle.command.specs.Carry.{settingsAfter, transferAfter}
 use Rattle.command.specs.Response.{response}
 use Rattle.command.specs.Player.{State, judged, next, responses, after}
-use Rattle.command.specs.Controller.{heldIn, stateOf, receiverIn}
+use Rattle.command.specs.Controller.{transferOf, heldIn, stateOf, receiverIn}
 use Rattle.command.specs.Endpoint.{arrivedIn, judgedIn, responseIn, carriedOut, After, waiting, receiveCall}
 use Rattle.command.specs.Sending.{serves, Ready, Sending, sentTo, Boundary}
 use Rattle.command.specs.Demand2.{Follows}
@@ -64,8 +64,8 @@ module _ (c : Controller) (k : Ready c) (p : List ℕ) (i : IsPacket p) where
   whole-body : payloadLength p ≤ 1024 → body ≡ payload p
   whole-body l = rw (zero-add (payloadLength p)) at (stored-part (c .hold) (payload p) 0 (payloadLength p) (payload-length p (i .exact)) (omega (arith, k .hold)))
 
-  held-same : length (held (stateOf c .transfer)) ≡ heldIn (c .registers .transfer)
-  held-same = held-length (c .registers .transfer) (rule-parts (c .registers) (k .rule) .transfer) (c .buffer) (k .buffer)
+  held-same : length (held (stateOf c .transfer)) ≡ heldIn (transferOf (c .registers))
+  held-same = held-length (transferOf (c .registers)) (rule-parts (c .settings) (c .registers) (k .rule) .transfer) (c .buffer) (k .buffer)
 
   -- it is judged as document 01 judges its bytes
   seen : arrivedIn complete ≡ withBody (arrived p) body
@@ -83,21 +83,21 @@ module _ (c : Controller) (k : Ready c) (p : List ℕ) (i : IsPacket p) where
   judged-same : judgedIn c complete ≡ judged (stateOf c) p
   unfolding judgedIn judged
   judged-same =
-      ap (judge (c .registers .settings .mode) (stateOf c .transfer)) seen
-      ∙ judge-body (c .registers .settings .mode) (stateOf c .transfer) (arrived p) body (λ l. whole-body (omega arith))
+      ap (judge (c .settings .mode) (stateOf c .transfer)) seen
+      ∙ judge-body (c .settings .mode) (stateOf c .transfer) (arrived p) body (λ l. whole-body (omega arith))
 
-  response-same : responseIn c complete ≡ response (c .registers .settings) (arrived p) (judged (stateOf c) p)
+  response-same : responseIn c complete ≡ response (c .settings) (arrived p) (judged (stateOf c) p)
   unfolding responseIn response
-  response-same = ap₂ (response (c .registers .settings)) seen judged-same
+  response-same = ap₂ (response (c .settings)) seen judged-same
 
   -- and leaves the state that document 01 says
-  carried-state : (j : Judgement) → Bounded (heldIn (c .registers .transfer) + payloadLength p) j → stateOf (carriedOut c complete j) ≡ record {
-    settings = settingsAfter (c .registers .settings) j;
+  carried-state : (j : Judgement) → Bounded (heldIn (transferOf (c .registers)) + payloadLength p) j → stateOf (carriedOut c complete j) ≡ record {
+    settings = settingsAfter (c .settings) j;
     transfer = transferAfter (stateOf c .transfer) (arrived p) j;
   }
   carried-state j b =
-      ap (λ (t : Transfer). record { settings = settingsAfter (c .registers .settings) j; transfer = t })
-      (carried-transfer (c .registers .transfer) (c .buffer) (arrivedIn complete .body) (arrived p) j (rule-parts (c .registers) (k .rule) .transfer) (k .buffer)
+      ap (λ (t : Transfer). record { settings = settingsAfter (c .settings) j; transfer = t })
+      (carried-transfer (transferOf (c .registers)) (c .buffer) (arrivedIn complete .body) (arrived p) j (rule-parts (c .settings) (c .registers) (k .rule) .transfer) (k .buffer)
       (payload-length p (i .exact)) (λ l. ap (λ (q : Arrived). q .body) seen ∙ whole-body l) b)
 
   state-same : stateOf (carriedOut c complete (judgedIn c complete)) ≡ next (stateOf c) p
@@ -106,11 +106,11 @@ module _ (c : Controller) (k : Ready c) (p : List ℕ) (i : IsPacket p) where
       ap (λ (j : Judgement). stateOf (carriedOut c complete j)) judged-same
       ∙ carried-state (judged (stateOf c) p)
       (subst (λ (n : ℕ). Bounded (n + payloadLength p) (judged (stateOf c) p)) held-same
-      (bounded (c .registers .settings .mode) (stateOf c .transfer) (arrived p)))
+      (bounded (c .settings .mode) (stateOf c .transfer) (arrived p)))
 
 -- what a packet draws
 abbrev pub drawn : Controller → List ℕ → List ℕ
-drawn c p = response (c .registers .settings) (arrived p) (judged (stateOf c) p)
+drawn c p = response (c .settings) (arrived p) (judged (stateOf c) p)
 
 -- what a call does that completes the packet p
 pub record Takes (out : List ℕ) (c : Controller) (p : List ℕ) (r : After) : Type 0 where

@@ -18,7 +18,7 @@ use Rattle.packet.proofs.ReceiverLaws.{with-nil, hold-length, missing-least, af
 use Rattle.command.specs.Transfer.{held}
 use Rattle.command.specs.Judgement.{judge}
 use Rattle.command.specs.Carry.{settingsAfter}
-use Rattle.command.specs.Controller.{heldIn, transferIn, receiverIn}
+use Rattle.command.specs.Controller.{transferOf, heldIn, transferIn, receiverIn}
 use Rattle.command.specs.Endpoint.{takenBy, arrivedIn, judgedIn, responseIn, registersOf, carriedOut, After, waiting, answered, receiveCall}
 use Rattle.command.specs.Sending.{shown, serves, Sending, sentTo, Ready}
 use Rattle.command.specs.declared.controller.Controller.{Controller}
@@ -36,7 +36,7 @@ ends c out t = cond (t .complete) (answered c t out) (waiting c t out)
 -- the controller with this receiver
 abbrev pub receivedBy : Controller → Receiver → Controller
 receivedBy c r =
-    record { registers = registersOf (c .registers .settings) (c .registers .transfer) r; buffer = c .buffer; hold = r .hold }
+    record { settings = c .settings; registers = registersOf (transferOf (c .registers)) r; buffer = c .buffer; hold = r .hold }
 
 module _ (c : Controller) (b out : List ℕ) (k : Ready c) (l : 64 ≤ length out) where
   pub call-is : {t : Received} → takenBy c b ≡ t → receiveCall c b out ≡ ends c out t
@@ -56,26 +56,26 @@ ready-carried : (c : Controller) (t : Received) → Ready c → length (t .recei
     → Ready (carriedOut c t (judgedIn c t))
 unfolding judgedIn
 ready-carried c t k h d z =
-    let r = rule-parts (c .registers) (k .rule) in
-    let a = transferIn (c .registers .transfer) (c .buffer) in
+    let r = rule-parts (c .settings) (c .registers) (k .rule) in
+    let a = transferIn (transferOf (c .registers)) (c .buffer) in
     let q = arrivedIn t in
-    let j = judge (c .registers .settings .mode) (transferIn (c .registers .transfer) (c .buffer)) (arrivedIn t) in
-    let n : length (held a) ≡ heldIn (c .registers .transfer) = held-length (c .registers .transfer) (r .transfer) (c .buffer) (k .buffer) in
-    let b : Bounded (heldIn (c .registers .transfer) + payloadLength (t .receiver .header)) j = rw n at (bounded (c .registers .settings .mode) a q) in
+    let j = judge (c .settings .mode) (transferIn (transferOf (c .registers)) (c .buffer)) (arrivedIn t) in
+    let n : length (held a) ≡ heldIn (transferOf (c .registers)) = held-length (transferOf (c .registers)) (r .transfer) (c .buffer) (k .buffer) in
+    let b : Bounded (heldIn (transferOf (c .registers)) + payloadLength (t .receiver .header)) j = rw n at (bounded (c .settings .mode) a q) in
     record {
       rule =
-          rule-whole _
+          rule-whole _ _
           (record {
             settings =
-                in-rule-of (settingsAfter (c .registers .settings) j)
-                (kept-judgement (c .registers .settings) j (kept-by (c .registers .settings) (r .settings)) (sound (c .registers .settings .mode) a q));
+                in-rule-of (settingsAfter (c .settings) j)
+                (kept-judgement (c .settings) j (kept-by (c .settings) (r .settings)) (sound (c .settings .mode) a q));
             transfer =
-                transfer-kept (c .registers .transfer) (q .body) (payloadLength (t .receiver .header)) j
+                transfer-kept (transferOf (c .registers)) (q .body) (payloadLength (t .receiver .header)) j
                 (omega (arith, length-take (payloadLength (t .receiver .header)) (t .receiver .hold))) (r .transfer) b;
             packet = unfold packetInRule in lt-ltb (t .receiver .received) (7 + payloadLength (t .receiver .header)) (omega arith);
           });
       header = h;
-      buffer = buffer-kept (c .registers .transfer) (c .buffer) (q .body) j ∙ k .buffer;
+      buffer = buffer-kept (transferOf (c .registers)) (c .buffer) (q .body) j ∙ k .buffer;
       hold = d;
     }
 
@@ -97,10 +97,10 @@ few r b i h = go b h
 ready-waiting : (c : Controller) (b : List ℕ) → Ready c → length b < missing (receiverIn c) b → Ready (receivedBy c (with 0 (receiverIn c) b))
 unfolding with
 ready-waiting c b k h =
-    let r = rule-parts (c .registers) (k .rule) in
+    let r = rule-parts (c .settings) (c .registers) (k .rule) in
     record {
       rule =
-          rule-whole _
+          rule-whole _ _
           (record {
             settings = r .settings;
             transfer = r .transfer;

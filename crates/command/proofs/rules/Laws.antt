@@ -1,22 +1,24 @@
 -- Settings that keep the rules, and what a write leaves of them.
-use Prim.Native.Nat.{ℕ}
+use Prim.Native.Nat.{ℕ, _≤_}
 use mathlib.Core.Path.{_≡_, refl, ap, sym, subst}
 use mathlib.Core.Bool.{Bool, true, false, cond, not, _&&_, and-false}
 use mathlib.Core.List.{List, [], _∷_}
 use native.Mathlib.Omega.{arith}
-use lib.Dec.{eqb}
-use borrow.Author.Tests.{not-true}
+use lib.Dec.{eqb, leb}
+use borrow.Author.Tests.{not-true, leb-true}
 use lib.ListN.{length, getD}
 use Rattle.packet.proofs.Cases.{bool-cases, cond-cases, and-left, and-right, and-both}
 use Rattle.command.specs.Data.{Fit}
 use Rattle.command.specs.Table.{table, cmd1For, cmd2For, find, commandOf, same, layout}
 use Rattle.command.specs.Rules.{allowed, blocked, allAllowed, settingsInRule}
 use Rattle.command.specs.Settings.{valuesOf, factory, valuesAfter, store}
+use Rattle.command.specs.Value.{widths}
 use Rattle.command.specs.declared.settings.Settings.{Settings}
 use Rattle.command.specs.declared.table.Command.{Command}
 use Rattle.command.specs.declared.table.Command.the-variants.{DisplayMode, TestPattern, LedCurrent, StaticColour, DisplaySetting, VideoInput, VideoMode, PatternSequence, SequenceRun}
 use Rattle.command.specs.declared.table.Found.the-variants.{Known}
 use Rattle.command.proofs.table.Laws.{each, found, find-later, same-eq, fit-length, values-settings}
+use Rattle.command.proofs.data.Laws.{fit-last}
 
 -- the settings keep the rules
 pub record Kept (s : Settings) : Type 0 where
@@ -25,7 +27,35 @@ pub record Kept (s : Settings) : Type 0 where
 
 -- the values of every command fit their fields, as those of the code's types do
 abbrev pub Fits : Settings → Type 0
-Fits s = (c : Command) → Fit (layout c) (valuesOf c s)
+Fits s = (c : Command) → Fit (widths c) (valuesOf c s)
+
+-- what fits in the data fits in the code's types
+pub fit-types : (c : Command) (v : List ℕ) → Fit (layout c) v → Fit (widths c) v
+fit-types DisplayMode v f = f
+fit-types TestPattern v f = f
+fit-types LedCurrent v f = f
+fit-types StaticColour v f = f
+fit-types DisplaySetting v f = fit-last (1 ∷ 1 ∷ []) 1 2 v (λ h. omega (arith, h)) f
+fit-types VideoInput v f = f
+fit-types VideoMode v f = fit-last (1 ∷ 1 ∷ []) 1 2 v (λ h. omega (arith, h)) f
+fit-types PatternSequence v f = fit-last (1 ∷ 1 ∷ 1 ∷ 1 ∷ 4 ∷ 4 ∷ 4 ∷ []) 1 4 v (λ h. omega (arith, h)) f
+fit-types SequenceRun v f = fit-last [] 1 4 v (λ h. omega (arith, h)) f
+
+-- a number past whose bound nothing is allowed
+most : (n b : ℕ) {t : Bool} → (leb n b ≡ false → t ≡ false) → t ≡ true → n ≤ b
+most n b h a = bool-cases (leb n b) (leb-true n b) (λ e. let x = h e in let z : _≡_ {A = ℕ} 0 1 = cc in absurd (omega arith))
+
+-- and what is allowed of these fits in the data: the rule bounds each field that is wider in the code
+pub fit-data : (c : Command) (v : List ℕ) → allowed c v ≡ true → Fit (widths c) v → Fit (layout c) v
+fit-data DisplayMode v a f = f
+fit-data TestPattern v a f = f
+fit-data LedCurrent v a f = f
+fit-data StaticColour v a f = f
+fit-data DisplaySetting v a f = fit-last (1 ∷ 1 ∷ []) 2 1 v (λ _. omega (arith, most (getD v 2 0) 1 (λ e. simp (e, and-false)) a)) f
+fit-data VideoInput v a f = f
+fit-data VideoMode v a f = fit-last (1 ∷ 1 ∷ []) 2 1 v (λ _. omega (arith, most (getD v 2 0) 4 (λ e. simp (e, and-false)) a)) f
+fit-data PatternSequence v a f = fit-last (1 ∷ 1 ∷ 1 ∷ 1 ∷ 4 ∷ 4 ∷ 4 ∷ []) 4 1 v (λ _. omega (arith, most (getD v 7 0) 2 (λ e. simp (e, and-false)) a)) f
+fit-data SequenceRun v a f = fit-last [] 4 1 v (λ _. omega (arith, leb-true (getD v 0 0) 1 a)) f
 
 all-allowed : (s : Settings) (cs : List Command) (c : Command) → find (cmd1For c) (cmd2For c) cs ≡ Known c → allAllowed s cs ≡ true → allowed c (valuesOf c s) ≡ true
 unfolding allAllowed find
@@ -111,8 +141,8 @@ kept-store c v s k w =
 
 pub fits-store : (c : Command) (v : List ℕ) (s : Settings) → Fits s → Fit (layout c) v → Fits (store c v s)
 fits-store c v s k w e =
-    subst (λ (x : List ℕ). Fit (layout e) x) (sym (values-store c v s (fit-length (layout c) v w) e))
-    (after-cases (λ e x. Fit (layout e) x) c v s w (omega arith, tt) k e)
+    subst (λ (x : List ℕ). Fit (widths e) x) (sym (values-store c v s (fit-length (layout c) v w) e))
+    (after-cases (λ e x. Fit (widths e) x) c v s (fit-types c v w) (omega arith, tt) k e)
 
 -- the factory values do
 pub kept-factory : Kept factory
@@ -125,4 +155,4 @@ kept-factory =
 
 pub fits-factory : Fits factory
 unfolding factory
-fits-factory = each (λ c. Fit (layout c) (valuesOf c factory)) (omega arith, omega arith, omega arith, omega arith, omega arith, omega arith, omega arith, omega arith, omega arith)
+fits-factory = each (λ c. Fit (widths c) (valuesOf c factory)) (omega arith, omega arith, omega arith, omega arith, omega arith, omega arith, omega arith, omega arith, omega arith)

@@ -88,11 +88,12 @@ module _ (t : TransferState) (r : transferInRule t ≡ true) where
       known Unknown e k g = let z : _≡_ {A = ℕ} 0 1 = cc in absurd (omega arith)
       known (Known c) e k g = g c e
 
-  pub held-most : heldIn t ≤ 1024
+  pub count-most : t .held ≤ 1024
   unfolding transferInRule
-  held-most =
-      let m : t .held ≤ 1024 = leb-true (t .held) 1024 (and-left (leb (t .held) 1024) (eqb (t .active) 0 || isKnown (commandOf (t .cmd1) (t .cmd2))) r) in
-      bool-cases (eqb (t .active) 0) (λ e. rw e (omega arith)) (λ e. rw e m)
+  count-most = leb-true (t .held) 1024 (and-left (leb (t .held) 1024) (eqb (t .active) 0 || isKnown (commandOf (t .cmd1) (t .cmd2))) r)
+
+  pub held-most : heldIn t ≤ 1024
+  held-most = bool-cases (eqb (t .active) 0) (λ e. rw e (omega arith)) (λ e. rw e count-most)
 
   same-code : (c d : Command) → commandOf (t .cmd1) (t .cmd2) ≡ Known d → same c d ≡ hasCode (t .cmd1) (t .cmd2) c
   same-code c d k =

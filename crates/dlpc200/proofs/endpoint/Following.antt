@@ -13,14 +13,14 @@ use Rattle.packet.specs.Packet.{payloadLength, payload, checksum as packetCheck
 use Rattle.packet.specs.Stream.{size, hasPacket, packets}
 use Rattle.packet.specs.Calls.{Served, andThen, callsOn, servedOne}
 use Rattle.packet.proofs.Cases.{bool-cases}
-use Rattle.packet.proofs.BytesLaws.{sets-whole}
+use Rattle.packet.proofs.BytesLaws.{sets-get}
 use Rattle.packet.proofs.StreamLaws.{IsPacket, packets-cons, rest-cons, packets-none, rest-none, packet-induction}
 use Rattle.packet.proofs.Calls.{same-calls, at-once}
 use Rattle.packet.specs.Writer.{written}
 use Rattle.packet.specs.Receiver.{Receiver as PacketReceiver, Received, with, waiting as packetWaiting}
 use Rattle.packet.proofs.ReceiverLaws.{Between, afterPacket, rightFrom, one, first-of, too-few}
 use Rattle.dlpc200.specs.Packet.{afterCmd4, checksum, rightSum}
-use Rattle.dlpc200.specs.Receiver.{framedBy, receiverOf}
+use Rattle.dlpc200.specs.Device.{receiverOf, deviceOf}
 use Rattle.dlpc200.specs.Inner.{arrivedBy}
 use Rattle.dlpc200.specs.Judgement.{commandIn, arrived, judge, statesAfter}
 use Rattle.dlpc200.specs.Response.{response}
@@ -34,7 +34,7 @@ use Rattle.dlpc200.specs.declared.device.Device.{Device}
 use Rattle.dlpc200.proofs.endpoint.Laws.{Made, made, deviceAfter, not-refused, stays-in-rule, endpoint-streams, any-output}
 
 -- The packet that the receiver has received is the packet of its bytes.
-module _ (p : List ℕ) (i : IsPacket p) (id : List ℕ) (m : length id ≡ 2) where
+module _ (p : List ℕ) (i : IsPacket p) (hold : List ℕ) (m : length hold ≡ 4) where
   abbrev d : List ℕ
   d = payload p
 
@@ -45,17 +45,16 @@ module _ (p : List ℕ) (i : IsPacket p) (id : List ℕ) (m : length id ≡ 2) w
       length-take-le (payloadLength p) (drop 6 p) (omega (arith, i .exact))
 
   -- its first two data bytes tell its command, if it has two
-  same-command : commandIn (payloadLength p) (sets id 0 d) ≡ commandIn (payloadLength p) d
+  same-command : commandIn (payloadLength p) (sets hold 0 d) ≡ commandIn (payloadLength p) d
   unfolding commandIn
   same-command =
       bool-cases (ltb (payloadLength p) 2)
       (λ e. rw e)
       (λ e.
-      let l : 2 ≤ payloadLength p = ltb-false (payloadLength p) 2 e in
-      let w : sets id 0 d ≡ take 2 d = sets-whole d id (omega (arith, data-length)) ∙ ap (λ (n : ℕ). take n d) m in
-      rw (w, getD-take 2 d 0 0 (omega arith), getD-take 2 d 1 0 (omega arith)))
+      let l : 2 ≤ length d = omega (arith, data-length, ltb-false (payloadLength p) 2 e) in
+      rw (sets-get d hold 0 (omega arith) (omega arith), sets-get d hold 1 (omega arith) (omega arith)))
 
-  same-arrived : arrivedBy (take 6 p) (sets id 0 d) (rightSum p) ≡ arrived p
+  same-arrived : arrivedBy (take 6 p) (sets hold 0 d) (rightSum p) ≡ arrived p
   same-arrived =
       rw (getD-take 6 p 0 0 (omega arith), getD-take 6 p 1 0 (omega arith), getD-take 6 p 3 0 (omega arith), getD-take 6 p 4 0 (omega arith), getD-take 6 p 5 0 (omega arith), same-command)
 
@@ -64,14 +63,14 @@ same-right : (p : List ℕ) → rightFrom afterCmd4 p ≡ rightSum p
 unfolding rightSum checksum packetChecksum
 same-right p = refl
 
--- the packet complete in a receiver is that of the header and the ID that it holds
+-- the packet complete in a receiver is that of the header and the data that it holds
 arrived-in : (t : Received) → arrivedIn t ≡ arrivedBy (t .receiver .header) (t .receiver .hold) (t .right)
 arrived-in t = refl
 
 -- so it is judged as that, and draws what that draws
 module _ (s : States) (q : PacketReceiver) (m : Made q) (p : List ℕ) (i : IsPacket p) where
   same-packet : arrivedIn (one afterCmd4 q p) ≡ arrived p
-  same-packet = arrived-in (one afterCmd4 q p) ∙ ap (arrivedBy (take 6 p) (sets (q .hold) 0 (payload p))) (same-right p) ∙ same-arrived p i (q .hold) (m .id)
+  same-packet = arrived-in (one afterCmd4 q p) ∙ ap (arrivedBy (take 6 p) (sets (q .hold) 0 (payload p))) (same-right p) ∙ same-arrived p i (q .hold) (m .hold)
 
   same-judged : judgedIn (one afterCmd4 q p) ≡ judged p
   unfolding judgedIn judged
@@ -86,7 +85,7 @@ module _ (s : States) (q : PacketReceiver) (m : Made q) (p : List ℕ) (i : IsPa
   same-states = ap (statesAfter s) same-judged
 
 -- the receiver of a device between two packets is between them
-between : (d : Device) → Boundary d → Between (framedBy (d .receiver))
+between : (d : Device) → Boundary d → Between (receiverOf d)
 between d z = record { header = z .ready .header; received = z .received }
 
 module _ (out : List ℕ) (l : 64 ≤ length out) where
@@ -100,16 +99,16 @@ module _ (out : List ℕ) (l : 64 ≤ length out) where
       let k = z .ready in
       let q = between d z in
       let e : receiveCall d b out ≡ record { answer = Waits (length b); device = deviceAfter d b; output = out } =
-      not-refused d b out (k .rule) l ∙ ap (λ (t : Received). ended (d .states) t out) (too-few afterCmd4 (framedBy (d .receiver)) q b h) in
+      not-refused d b out (k .rule) l ∙ ap (λ (t : Received). ended (d .states) t out) (too-few afterCmd4 (receiverOf d) q b h) in
       let f : servedOne (serves out) d b ≡ record { given = []; state = deviceAfter d b } =
       ap (λ (x : After). andThen (shown x .gives) (shown x .state) (callsOn (serves out) (length b) (serves out d b .state) (drop (serves out d b .taken) b))) e in
       subst (Follows d b) (sym f)
       (record {
         given = sym (ap (responses (d .states)) (packets-none b h));
         ends = sym (ap (after (d .states)) (packets-none b h));
-        base = framedBy (d .receiver);
+        base = receiverOf d;
         boundary = z .received;
-        unfinished = ap (with afterCmd4 (framedBy (d .receiver))) (sym (rest-none b h));
+        unfinished = ap (with afterCmd4 (receiverOf d)) (sym (rest-none b h));
         ready = subst (λ (r : After). Ready (r .device)) e (stays-in-rule d b out k l);
       })
 
@@ -119,12 +118,12 @@ module _ (out : List ℕ) (l : 64 ≤ length out) where
   follows-more p b i ih d z =
       let k = z .ready in
       let q = between d z in
-      let t : Received = one afterCmd4 (framedBy (d .receiver)) p in
-      let x : Device = record { states = statesAfter (d .states) (judgedIn (one afterCmd4 (framedBy (d .receiver)) p)); receiver = receiverOf (afterPacket (framedBy (d .receiver)) p) } in
-      let m : List ℕ = responseIn (d .states) (one afterCmd4 (framedBy (d .receiver)) p) in
-      let e : receiveCall d (p ++ b) out ≡ answered (d .states) (one afterCmd4 (framedBy (d .receiver)) p) out =
-      not-refused d (p ++ b) out (k .rule) l ∙ ap (λ (t : Received). ended (d .states) t out) (first-of afterCmd4 (framedBy (d .receiver)) q p b (omega arith) i) in
-      let kx : Ready (record { states = statesAfter (d .states) (judgedIn (one afterCmd4 (framedBy (d .receiver)) p)); receiver = receiverOf (afterPacket (framedBy (d .receiver)) p) }) =
+      let t : Received = one afterCmd4 (receiverOf d) p in
+      let x : Device = deviceOf (statesAfter (d .states) (judgedIn (one afterCmd4 (receiverOf d) p))) (afterPacket (receiverOf d) p) in
+      let m : List ℕ = responseIn (d .states) (one afterCmd4 (receiverOf d) p) in
+      let e : receiveCall d (p ++ b) out ≡ answered (d .states) (one afterCmd4 (receiverOf d) p) out =
+      not-refused d (p ++ b) out (k .rule) l ∙ ap (λ (t : Received). ended (d .states) t out) (first-of afterCmd4 (receiverOf d) q p b (omega arith) i) in
+      let kx : Ready (deviceOf (statesAfter (d .states) (judgedIn (one afterCmd4 (receiverOf d) p))) (afterPacket (receiverOf d) p)) =
       subst (λ (r : After). Ready (r .device)) e (stays-in-rule d (p ++ b) out k l) in
       let n : length (p ++ b) ≡ length p + length b = length-append p b in
       let rest-calls : callsOn (serves out) (length (p ++ b)) x (drop (length p) (p ++ b)) ≡ servedOne (serves out) x b =
@@ -135,11 +134,11 @@ module _ (out : List ℕ) (l : 64 ≤ length out) where
       ∙ ap (λ (y : List ℕ). andThen (some y) x (callsOn (serves out) (length (p ++ b)) x (drop (length p) (p ++ b)))) (take-at m (drop (length m) out) (length m) refl)
       ∙ ap (λ (y : Served Device (List ℕ)). andThen (some m) x y) rest-calls in
       let g = ih x (record { ready = kx; received = refl }) in
-      let s : x .states ≡ next (d .states) p = same-states (d .states) (framedBy (d .receiver)) (made d k) p i in
+      let s : x .states ≡ next (d .states) p = same-states (d .states) (receiverOf d) (made d k) p i in
       subst (Follows d (p ++ b)) (sym f)
       (record {
         given =
-            ap₂ {C = List (List ℕ)} (λ y ys. y ∷ ys) (same-response (d .states) (framedBy (d .receiver)) (made d k) p i) (g .given ∙ ap (λ (a : States). responses a (packets b)) s)
+            ap₂ {C = List (List ℕ)} (λ y ys. y ∷ ys) (same-response (d .states) (receiverOf d) (made d k) p i) (g .given ∙ ap (λ (a : States). responses a (packets b)) s)
             ∙ sym (ap (responses (d .states)) (packets-cons p b i));
         ends = g .ends ∙ ap (λ (a : States). after a (packets b)) s ∙ sym (ap (after (d .states)) (packets-cons p b i));
         base = g .base;

@@ -16,7 +16,6 @@ use Rattle.packet.proofs.Cases.{lt-cases, and-left, and-right, and-both}
 use Rattle.packet.proofs.ReceiverLaws.{running-anew, with-nil, hold-length, missing-least, after, cut, behind, waits, completes}
 use Rattle.packet.proofs.Calls.{Streaming, shifted, AnyOutput}
 use Rattle.dlpc200.specs.Packet.{afterCmd4}
-use Rattle.dlpc200.specs.Receiver.{framedBy, receiverOf, receiving}
 use Rattle.dlpc200.specs.States.{inRange}
 use Rattle.dlpc200.specs.declared.states.States.{States}
 use Rattle.dlpc200.proofs.judgement.Laws.{in-range-kept}
@@ -24,92 +23,92 @@ use Rattle.packet.specs.Answer.{Waits}
 use Rattle.dlpc200.specs.Endpoint.{judgedIn, responseIn, After, waiting, answered, ended, receiveCall}
 use Rattle.dlpc200.specs.Sending.{shown, serves, Ready}
 use Rattle.dlpc200.specs.Request1.{withSum}
-use Rattle.dlpc200.specs.Device.{inRule}
+use Rattle.dlpc200.specs.Device.{inRule, receiverOf, deviceOf, receiving}
 use Rattle.dlpc200.specs.declared.device.Device.{Device}
 
--- a receiver as the code has it: its header has six bytes, and its ID two
+-- a receiver as the code has it: its header has six bytes, and its hold four
 pub record Made (q : PacketReceiver) : Type 0 where
   pub header : length (q .header) ≡ 6
-  pub id : length (q .hold) ≡ 2
+  pub hold : length (q .hold) ≡ 4
 
 made-with : (q : PacketReceiver) (b : List ℕ) → Made q → Made (with afterCmd4 q b)
 unfolding with
-made-with q b m = record { header = length-sets (q .header) (q .received) b ∙ m .header; id = hold-length afterCmd4 q b ∙ m .id }
+made-with q b m = record { header = length-sets (q .header) (q .received) b ∙ m .header; hold = hold-length afterCmd4 q b ∙ m .hold }
 
-pub made : (d : Device) → Ready d → Made (framedBy (d .receiver))
-made d k = record { header = k .header; id = k .id }
+pub made : (d : Device) → Ready d → Made (receiverOf d)
+made d k = record { header = k .header; hold = k .hold }
 
 -- the two parts of the rule
 range-of : (d : Device) → inRule d ≡ true → inRange (d .states) ≡ true
-range-of d h = and-left (inRange (d .states)) (packetInRule (d .receiver .header) (d .receiver .received)) h
+range-of d h = and-left (inRange (d .states)) (packetInRule (d .header) (d .received)) h
 
-unfinished : (d : Device) → inRule d ≡ true → d .receiver .received < 7 + payloadLength (d .receiver .header)
+unfinished : (d : Device) → inRule d ≡ true → d .received < 7 + payloadLength (d .header)
 unfinished d h =
-    ltb-true (d .receiver .received) (7 + payloadLength (d .receiver .header))
-    (unfold packetInRule in and-right (inRange (d .states)) (packetInRule (d .receiver .header) (d .receiver .received)) h)
+    ltb-true (d .received) (7 + payloadLength (d .header))
+    (unfold packetInRule in and-right (inRange (d .states)) (packetInRule (d .header) (d .received)) h)
 
-pub rule-by : (d : Device) → inRange (d .states) ≡ true → d .receiver .received < 7 + payloadLength (d .receiver .header) → inRule d ≡ true
+pub rule-by : (d : Device) → inRange (d .states) ≡ true → d .received < 7 + payloadLength (d .header) → inRule d ≡ true
 unfolding packetInRule
 rule-by d h l =
-    and-both (inRange (d .states)) (ltb (d .receiver .received) (7 + payloadLength (d .receiver .header))) h
-    (lt-ltb (d .receiver .received) (7 + payloadLength (d .receiver .header)) l)
+    and-both (inRange (d .states)) (ltb (d .received) (7 + payloadLength (d .header))) h
+    (lt-ltb (d .received) (7 + payloadLength (d .header)) l)
 
 -- the device with b received of the current packet
 abbrev pub deviceAfter : Device → List ℕ → Device
-deviceAfter d b = record { states = d .states; receiver = receiverOf (with afterCmd4 (framedBy (d .receiver)) b) }
+deviceAfter d b = deviceOf (d .states) (with afterCmd4 (receiverOf d) b)
 
 -- A call that is not refused,
-pub not-refused : (d : Device) (b out : List ℕ) → inRule d ≡ true → 64 ≤ length out → receiveCall d b out ≡ ended (d .states) (receiving (d .receiver) b) out
+pub not-refused : (d : Device) (b out : List ℕ) → inRule d ≡ true → 64 ≤ length out → receiveCall d b out ≡ ended (d .states) (receiving d b) out
 unfolding receiveCall
 not-refused d b out r l = rw (le-ltb (length out) 64 l, r)
 
 -- and its two ends.
 module _ (d : Device) (b out : List ℕ) (k : Ready d) (l : 64 ≤ length out) where
   abbrev wanted : ℕ
-  wanted = missing (framedBy (d .receiver)) b
+  wanted = missing (receiverOf d) b
 
   call-waits : length b < wanted → receiveCall d b out ≡ record { answer = Waits (length b); device = deviceAfter d b; output = out }
   unfolding packetWaiting
-  call-waits h = not-refused d b out (k .rule) l ∙ ap (λ (t : Received). ended (d .states) t out) (waits afterCmd4 (framedBy (d .receiver)) b h)
+  call-waits h = not-refused d b out (k .rule) l ∙ ap (λ (t : Received). ended (d .states) t out) (waits afterCmd4 (receiverOf d) b h)
 
-  call-answers : wanted ≤ length b → receiveCall d b out ≡ answered (d .states) (completed afterCmd4 (framedBy (d .receiver)) b wanted) out
+  call-answers : wanted ≤ length b → receiveCall d b out ≡ answered (d .states) (completed afterCmd4 (receiverOf d) b wanted) out
   unfolding completed
-  call-answers h = not-refused d b out (k .rule) l ∙ ap (λ (t : Received). ended (d .states) t out) (completes afterCmd4 (framedBy (d .receiver)) b h)
+  call-answers h = not-refused d b out (k .rule) l ∙ ap (λ (t : Received). ended (d .states) t out) (completes afterCmd4 (receiverOf d) b h)
 
 -- what is received of a packet that is not complete is short of its size
-few : (d : Device) (b : List ℕ) → inRule d ≡ true → length b < missing (framedBy (d .receiver)) b
-    → d .receiver .received + length b < 7 + payloadLength (sets (d .receiver .header) (d .receiver .received) b)
+few : (d : Device) (b : List ℕ) → inRule d ≡ true → length b < missing (receiverOf d) b
+    → d .received + length b < 7 + payloadLength (sets (d .header) (d .received) b)
 unfolding missing
 few d [] r h = omega (arith, unfinished d r)
 few d (x ∷ b) r h = omega (arith, unfinished d r)
 
-ready-waiting : (d : Device) (b : List ℕ) → Ready d → length b < missing (framedBy (d .receiver)) b → Ready (deviceAfter d b)
+ready-waiting : (d : Device) (b : List ℕ) → Ready d → length b < missing (receiverOf d) b → Ready (deviceAfter d b)
 ready-waiting d b k h =
-    let m = made-with (framedBy (d .receiver)) b (made d k) in
+    let m = made-with (receiverOf d) b (made d k) in
     record {
       rule = rule-by (deviceAfter d b) (range-of d (k .rule)) (unfold with in few d b (k .rule) h);
       header = m .header;
-      id = m .id;
+      hold = m .hold;
     }
 
 -- a complete packet leaves the device in rule
-ready-answered : (d : Device) (b out : List ℕ) (n : ℕ) → Ready d → Ready (answered (d .states) (completed afterCmd4 (framedBy (d .receiver)) b n) out .device)
+ready-answered : (d : Device) (b out : List ℕ) (n : ℕ) → Ready d → Ready (answered (d .states) (completed afterCmd4 (receiverOf d) b n) out .device)
 unfolding completed
 ready-answered d b out n k =
-    let t : Received = completed afterCmd4 (framedBy (d .receiver)) b n in
-    let m = made-with (framedBy (d .receiver)) (take (n - 1) b) (made d k) in
+    let t : Received = completed afterCmd4 (receiverOf d) b n in
+    let m = made-with (receiverOf d) (take (n - 1) b) (made d k) in
     record {
       rule = rule-by (answered (d .states) t out .device) (in-range-kept (d .states) (judgedIn t) (range-of d (k .rule))) (omega arith);
       header = m .header;
-      id = m .id;
+      hold = m .hold;
     }
 
 -- In rule stays in rule, whatever bytes come.
 pub stays-in-rule : (d : Device) (b out : List ℕ) → Ready d → 64 ≤ length out → Ready (receiveCall d b out .device)
 stays-in-rule d b out k l =
-    lt-cases (length b) (missing (framedBy (d .receiver)) b)
+    lt-cases (length b) (missing (receiverOf d) b)
     (λ h. subst (λ (r : After). Ready (r .device)) (sym (call-waits d b out k l h)) (ready-waiting d b k h))
-    (λ h. subst (λ (r : After). Ready (r .device)) (sym (call-answers d b out k l h)) (ready-answered d b out (missing (framedBy (d .receiver)) b) k))
+    (λ h. subst (λ (r : After). Ready (r .device)) (sym (call-answers d b out k l h)) (ready-answered d b out (missing (receiverOf d) b) k))
 
 -- With up to four bytes received the sum begins anew.
 
@@ -152,26 +151,26 @@ module _ (q : PacketReceiver) (n : ℕ) (l : q .received ≤ afterCmd4) where
       ∙ completed-anew b h
       ∙ sym (completes afterCmd4 q b h))
 
-pub sum-begins : (d : Device) (n : ℕ) (b out : List ℕ) → 64 ≤ length out → inRule d ≡ true → d .receiver .received ≤ afterCmd4
-    → afterCmd4 < d .receiver .received + length b → receiveCall (withSum d n) b out ≡ receiveCall d b out
+pub sum-begins : (d : Device) (n : ℕ) (b out : List ℕ) → 64 ≤ length out → inRule d ≡ true → d .received ≤ afterCmd4
+    → afterCmd4 < d .received + length b → receiveCall (withSum d n) b out ≡ receiveCall d b out
 sum-begins d n b out l r h m =
     not-refused (withSum d n) b out r l
-    ∙ ap (λ (t : Received). ended (d .states) t out) (receiving-anew (framedBy (d .receiver)) n h b m)
+    ∙ ap (λ (t : Received). ended (d .states) t out) (receiving-anew (receiverOf d) n h b m)
     ∙ sym (not-refused d b out r l)
 
 -- The receive call over a stream.
 module _ (out : List ℕ) (l : 64 ≤ length out) where
-  none-waits : (d : Device) (a : List ℕ) → Ready d → serves out d a .gives ≡ none → length a < missing (framedBy (d .receiver)) a
+  none-waits : (d : Device) (a : List ℕ) → Ready d → serves out d a .gives ≡ none → length a < missing (receiverOf d) a
   none-waits d a k g =
-      lt-cases (length a) (missing (framedBy (d .receiver)) a)
+      lt-cases (length a) (missing (receiverOf d) a)
       (λ h. h)
       (λ h.
       let e = sym (ap (λ (r : After). shown r .gives) (call-answers d a out k l h)) ∙ g in
       let z : _≡_ {A = ℕ} 0 1 = cc in absurd (omega arith))
 
-  some-answers : (d : Device) (a e : List ℕ) → Ready d → serves out d a .gives ≡ some e → missing (framedBy (d .receiver)) a ≤ length a
+  some-answers : (d : Device) (a e : List ℕ) → Ready d → serves out d a .gives ≡ some e → missing (receiverOf d) a ≤ length a
   some-answers d a e k g =
-      lt-cases (length a) (missing (framedBy (d .receiver)) a)
+      lt-cases (length a) (missing (receiverOf d) a)
       (λ h.
       let e = sym (ap (λ (r : After). shown r .gives) (call-waits d a out k l h)) ∙ g in
       let z : _≡_ {A = ℕ} 0 1 = cc in absurd (omega arith))
@@ -183,27 +182,27 @@ module _ (out : List ℕ) (l : 64 ≤ length out) where
   shown-by s n t true = refl
   shown-by s n t false = refl
 
-  cut-call : (d : Device) (a b : List ℕ) → Ready d → length a < missing (framedBy (d .receiver)) a
+  cut-call : (d : Device) (a b : List ℕ) → Ready d → length a < missing (receiverOf d) a
       → serves out d (a ++ b) ≡ shifted (length a) (serves out (deviceAfter d a) b)
   cut-call d a b k h =
-      let t : Received = receiving (deviceAfter d a .receiver) b in
+      let t : Received = receiving (deviceAfter d a) b in
       ap shown (not-refused d (a ++ b) out (k .rule) l)
-      ∙ ap (λ (t : Received). shown (ended (d .states) t out)) (cut afterCmd4 (framedBy (d .receiver)) a b (k .header) h)
+      ∙ ap (λ (t : Received). shown (ended (d .states) t out)) (cut afterCmd4 (receiverOf d) a b (k .header) h)
       ∙ shown-by (d .states) (length a) t (t .complete)
       ∙ ap (λ (r : After). shifted (length a) (shown r)) (sym (not-refused (deviceAfter d a) b out (ready-waiting d a k h .rule) l))
 
-  behind-call : (d : Device) (a b : List ℕ) → Ready d → missing (framedBy (d .receiver)) a ≤ length a → serves out d (a ++ b) ≡ serves out d a
+  behind-call : (d : Device) (a b : List ℕ) → Ready d → missing (receiverOf d) a ≤ length a → serves out d (a ++ b) ≡ serves out d a
   behind-call d a b k h =
       ap shown (not-refused d (a ++ b) out (k .rule) l)
-      ∙ ap (λ (t : Received). shown (ended (d .states) t out)) (behind afterCmd4 (framedBy (d .receiver)) a b (k .header) h)
+      ∙ ap (λ (t : Received). shown (ended (d .states) t out)) (behind afterCmd4 (receiverOf d) a b (k .header) h)
       ∙ sym (ap shown (not-refused d a out (k .rule) l))
 
   no-bytes : (d : Device) → Ready d → serves out d [] ≡ record { taken = 0; gives = none; state = d }
   no-bytes d k =
-      ap shown (call-waits d [] out k l (omega (arith, missing-least (framedBy (d .receiver)) [])))
-      ∙ ap (λ (q : PacketReceiver). record { taken = 0; gives = none; state = record { states = d .states; receiver = receiverOf q } }) (with-nil afterCmd4 (framedBy (d .receiver)))
+      ap shown (call-waits d [] out k l (omega (arith, missing-least (receiverOf d) [])))
+      ∙ ap (λ (q : PacketReceiver). record { taken = 0; gives = none; state = deviceOf (d .states) q }) (with-nil afterCmd4 (receiverOf d))
 
-  count-answers : (d : Device) (a : List ℕ) → Ready d → missing (framedBy (d .receiver)) a ≤ length a → serves out d a .taken ≡ missing (framedBy (d .receiver)) a
+  count-answers : (d : Device) (a : List ℕ) → Ready d → missing (receiverOf d) a ≤ length a → serves out d a .taken ≡ missing (receiverOf d) a
   unfolding completed
   count-answers d a k h = ap (λ (r : After). shown r .taken) (call-answers d a out k l h)
 
@@ -216,7 +215,7 @@ module _ (out : List ℕ) (l : 64 ≤ length out) where
             let h = none-waits d a k g in
             cut-call d a b k h ∙ ap (λ (x : Device). shifted (length a) (serves out x b)) (sym (ap (λ (r : After). r .device) (call-waits d a out k l h)));
         behind = λ d a b e k g. behind-call d a b k (some-answers d a e k g);
-        least = λ d a e k g. omega (arith, missing-least (framedBy (d .receiver)) a, count-answers d a k (some-answers d a e k g));
+        least = λ d a e k g. omega (arith, missing-least (receiverOf d) a, count-answers d a k (some-answers d a e k g));
         most = λ d a e k g. omega (arith, some-answers d a e k g, count-answers d a k (some-answers d a e k g));
       }
 
@@ -238,6 +237,6 @@ any-output =
       streams = endpoint-streams;
       same = λ out other d b l m k.
           ap shown (not-refused d b out (k .rule) l)
-          ∙ same-ended (d .states) (receiving (d .receiver) b) out other
+          ∙ same-ended (d .states) (receiving d b) out other
           ∙ sym (ap shown (not-refused d b other (k .rule) m));
     }

@@ -1,6 +1,7 @@
 -- Responses as they are written: the bytes stored, and the packet that they are.
 use Prim.Native.Nat.{ℕ, _+_, _≤_}
 use mathlib.Core.Path.{_≡_, refl, ap, _∙_}
+use mathlib.Core.Logic.{_⊎_, inl, inr}
 use mathlib.Core.Bool.{true}
 use mathlib.Core.List.{List, [], _∷_, _++_}
 use native.Mathlib.Omega.{arith}
@@ -58,6 +59,18 @@ whole-judged s n (Done c) = whole-shown n (shownOf s c)
 pub response-whole : (s : States) (p : List ℕ) → Whole (answerTo s p)
 unfolding answerTo response
 response-whole s p = whole-judged s (responseType (cmd1Of p)) (judged p)
+
+-- It has 9 bytes, or 10 with a state.
+
+length-shown : (n : ℕ) (v : Shown) → let m = length (packetOf n (0x00 ∷ 0x00 ∷ dataOf v)) in (m ≡ 9) ⊎ (m ≡ 10)
+unfolding packetOf bytesOf
+length-shown n Nothing = inl refl
+length-shown n (State v) = inr refl
+
+pub response-length : (s : States) (n : ℕ) (j : Judgement) → let m = length (packetOf n (responseData s j)) in (m ≡ 9) ⊎ (m ≡ 10)
+unfolding packetOf bytesOf
+response-length s n (Failed f) = inl refl
+response-length s n (Done c) = length-shown n (shownOf s c)
 
 -- It is a read response for CMD1 04 and a write response otherwise, and carries AA, 00, 00 as CMD2 to CMD4, whatever came.
 pub response-front : (s : States) (p : List ℕ) → take 4 (answerTo s p) ≡ responseType (cmd1Of p) ∷ 0xAA ∷ 0x00 ∷ 0x00 ∷ []

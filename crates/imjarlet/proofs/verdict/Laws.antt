@@ -8,7 +8,7 @@ use Rattle.packet.specs.Number.{Bytes}
 use Rattle.report.specs.Report.{Verdict, Accepted, Refused, verdict}
 use Rattle.report.specs.Refusals.{Fault, F11, F12, F13, F14, F15, F16, F17, F18, F19, F20, Refusal, Long, Later}
 use Rattle.report.proofs.Refusals.{refused-exactly}
-use Rattle.imjarlet.specs.Answers.{verdictOf, toldBy}
+use Rattle.imjarlet.specs.Boundary.{verdictOf, refusalIn, toldBy}
 
 fault-number : {r : List ℕ} (n p : ℕ) → Fault r n p → eqb n 0 ≡ false
 fault-number n p (F11 kind at left due short) = refl
@@ -26,7 +26,7 @@ refusal-number : {r : List ℕ} (n p : ℕ) → Refusal r n p → eqb n 0 ≡ fa
 refusal-number n p (Long over) = refl
 refusal-number n p (Later m k short fault) = fault-number m k fault
 
-pub told : (r : List ℕ) → Bytes r → (v : Verdict) → v ≡ verdict r → toldBy (verdictOf v) ≡ v
-unfolding toldBy verdictOf
-told r b (Accepted k score s) e = refl
-told r b (Refused n p) e = rw (refusal-number n p (refused-exactly r n p b .0 (sym e)))
+pub told-verdict : (r : List ℕ) → Bytes r → (v : Verdict) → v ≡ verdict r → toldBy (refusalIn v) (verdictOf v) ≡ v
+unfolding toldBy verdictOf refusalIn
+told-verdict r b (Accepted k score s) e = refl
+told-verdict r b (Refused n p) e = rw (refusal-number n p (refused-exactly r n p b .0 (sym e)))

@@ -5,9 +5,10 @@ use Prim.Native.Nat.{ℕ, suc, _+_, _-_, _%_, _≤_, _<_}
 use native.Mathlib.Nat.{add-zero, zero-add}
 use native.Mathlib.Numerals.{add-one}
 use native.Mathlib.Omega.{arith}
-use lib.ListN.{length, getD, take, drop, set, take-append-drop, drop-of-length-le}
-use lib.Seq.{sets, sets-eq, length-sets, set-out, length-take-le, drop-cons}
+use lib.ListN.{length, getD, take, drop, set, take-append-drop, drop-of-length-le, List·getD-append}
+use lib.Seq.{sets, sets-eq, length-sets, set-out, length-take-le, getD-take, drop-cons}
 use Rattle.packet.specs.Packet.{sum}
+use Rattle.packet.proofs.Cases.{lt-cases}
 
 -- a run of stores after another is one run
 pub sets-append : (xs ys l : List ℕ) (i : ℕ) → sets (sets l i xs) (i + length xs) ys ≡ sets l i (xs ++ ys)
@@ -53,3 +54,10 @@ sum-more xs s i h = rw (drop-cons xs i 0 h, add-one i) (omega arith)
 -- what a buffer holds after bytes were stored at its start
 pub sets-front : (xs l : List ℕ) → length xs ≤ length l → sets l 0 xs ≡ xs ++ drop (length xs) l
 sets-front xs l h = rw zero-add at (sets-eq xs l 0 (omega arith))
+
+-- one of them, where it found room
+pub sets-get : (xs l : List ℕ) (i : ℕ) → i < length xs → i < length l → getD (sets l 0 xs) i 0 ≡ getD xs i 0
+sets-get xs l i h k =
+    lt-cases (length l) (length xs)
+    (λ n. rw (sets-whole xs l (omega arith)) (getD-take (length l) xs i 0 k))
+    (λ n. rw (sets-front xs l n) (List·getD-append xs (drop (length xs) l) 0 i h))

@@ -10,7 +10,7 @@ returns-2 : tie.Need-returns-2
 unfolding receiveCall
 returns-2 c =
     let r = c .before .in-rule in
-    rw (le-ltb _ 64 (c .before .before .if1 .left), ← r .ensures, not-true (r .result) (c .if2 .taken)) (refl, refl, refl)
+    rw (le-ltb _ 64 (c .before .before .if1 .left), ← r .ensures, not-true (r .result) (c .if2 .taken)) (refl, refl)
 
 advance-requires : tie.Need-advance-requires
 advance-requires c κs =
@@ -21,5 +21,5 @@ pub serve-spec : {M : Type 1} → statement M
 unfolding receiveCall
 serve-spec =
     tie.close
-    (tie.spec (λ c. let e = lt-ltb _ 64 (c .if1 .taken) in rw e (refl, refl, refl)) (λ c κs. search needs) returns-2
+    (tie.spec (λ c. let e = lt-ltb _ 64 (c .if1 .taken) in rw e (refl, refl)) (λ c κs. search needs) returns-2
     advance-requires (λ c. search needs) (λ c. search needs))

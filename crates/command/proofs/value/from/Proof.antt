@@ -29,6 +29,7 @@ from-spec =
     (λ c κs. rw (c .enum-told8 .given .1) at (c .before .before .before .pre))
     (λ c. search needs)
     (λ c κs. omega (arith, rw (c .enum-told9 .given .1) at (c .before .before .before .pre)))
+    (λ c. search needs)
     (λ c. rw (c .before .enum-told .given .1, c .byte-at .ensures))
     (λ c. rw (c .before .enum-told2 .given .1, c .byte-at2 .ensures))
     (λ c. rw (c .before .enum-told3 .given .1) (ap (valueFrom LedCurrent) (c .current-in .ensures)))

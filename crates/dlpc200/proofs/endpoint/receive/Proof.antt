@@ -25,22 +25,25 @@ unfolding receiveCall responseIn judgedIn
 returns-3 c =
     let k = c .before .before .complete .ensures in
     let f = c .before .before .before .before in
-    let t = f .before .receive .ensures in
-    let q = f .before .before .before .before in
+    let t = f .before .take .ensures in
+    let q = f .before .before in
     let e = le-ltb _ _ (q .before .before .if1 .left) in
-    let r = sym (q .before .in-rule .ensures) ∙ not-false _ (q .if2 .left) in
-    (rw (e, r, ← t, f .if3 .taken) (k .0), rw (e, r, ← t, f .if3 .taken) (k .1), rw (e, r, ← t, f .if3 .taken) (k .2))
+    let r = sym (q .before .in-rule .ensures) ∙ not-false _ (q .if2 .left) in (
+      rw (e, r, ← t .0, ← t .1, f .if3 .taken) (k .0),
+      rw (e, r, ← t .0, ← t .1, f .if3 .taken) (k .1),
+      rw (e, r, ← t .0, ← t .1, f .if3 .taken) (k .2),
+    )
 
 -- the input ends
 returns-4 : tie.Need-returns-4
 unfolding receiveCall
 returns-4 c =
     let f = c .before in
-    let t = f .before .receive .ensures in
-    let q = f .before .before .before .before in
+    let t = f .before .take .ensures in
+    let q = f .before .before in
     let e = le-ltb _ _ (q .before .before .if1 .left) in
     let r = sym (q .before .in-rule .ensures) ∙ not-false _ (q .if2 .left) in
-    (rw (e, r, ← t, f .if3 .left), rw (e, r, ← t, f .if3 .left), rw (e, r, ← t, f .if3 .left))
+    (rw (e, r, ← t .0, f .if3 .left), rw (e, r, ← t .0, ← t .1, f .if3 .left), rw (e, r, ← t .0, f .if3 .left))
 
 pub receive-spec : {M : Type 1} → statement M
 receive-spec =

@@ -35,9 +35,11 @@ returns c =
     let n = w .before .before in
     let m = n .before in
     let h = m .before .before .before .before in
-    let s = h .before .before .before .before in
-    receive-completes (s .args .first) (came s) (now (s .args .input)) (six (h .before)) (h .store .ensures) (before m)
-    (n .least .ensures) (w .running-sum .ensures) (k .keep .ensures) (c .before .if1 .taken)
+    let s = h .before .before .before .before in (
+      receive-completes (s .args .first) (came s) (now (s .args .input)) (six (h .before)) (h .store .ensures) (before m)
+          (n .least .ensures) (w .running-sum .ensures) (k .keep .ensures) (c .before .if1 .taken),
+      omega arith,
+    )
 
 returns-2 : tie.Need-returns-2
 returns-2 c =
@@ -46,9 +48,11 @@ returns-2 c =
     let n = w .before .before in
     let m = n .before in
     let h = m .before .before .before .before in
-    let s = h .before .before .before .before in
-    receive-waits (s .args .first) (came s) (now (s .args .input)) (six (h .before)) (h .store .ensures) (before m)
-    (n .least .ensures) (w .running-sum .ensures) (k .keep .ensures) (c .if1 .left)
+    let s = h .before .before .before .before in (
+      receive-waits (s .args .first) (came s) (now (s .args .input)) (six (h .before)) (h .store .ensures) (before m)
+          (n .least .ensures) (w .running-sum .ensures) (k .keep .ensures) (c .if1 .left),
+      omega (arith, m .less .ensures, m .before .word .ensures .1, n .least .ensures),
+    )
 
 pub receive-spec : {M : Type 1} → statement M
 receive-spec =

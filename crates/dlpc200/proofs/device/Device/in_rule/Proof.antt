@@ -7,5 +7,5 @@ pub in-rule-spec : {M : Type 1} → statement M
 in-rule-spec =
     tie.close
     (tie.spec
-    (λ c κs. search needs) (λ c κs. search needs)
-    (λ c. rw (c .before .in-range .ensures, c .packet-in-rule .ensures)))
+    (λ c κs. search needs) (λ c. search needs) (λ c κs. search needs)
+    (λ c. rw (c .before .before .in-range .ensures, c .packet-in-rule .ensures)))

@@ -1,0 +1,14 @@
+-- `list` meets its contract: that of `command::standard_list`, its answer as numbers.
+use mathlib.Core.Path.{ap, _∙_}
+use borrow.Author.Needs.{needs}
+use Rattle.command.specs.Encoder.{refusalOf, sizeOf}
+use Rattle.imjarlet.proofs.encoder.list.Statement.{statement}
+use Rattle.imjarlet.proofs.encoder.list.Tie as tie
+
+returns : tie.Need-returns
+returns c =
+    let e = c .before .before .before .before .standard-list .ensures in
+    record { refused = c .told .ensures .0 ∙ ap refusalOf (e .0); count = c .told .ensures .1 ∙ ap sizeOf (e .0); written = e .1 }
+
+pub list-spec : {M : Type 1} → statement M
+list-spec = tie.close (tie.spec (λ c κs. search needs) (λ c κs. search needs) (λ c. search needs) returns)

@@ -1,0 +1,2 @@
+-- The laws of endpoint.
+pub mod Laws

@@ -1,0 +1,40 @@
+-- The numbers that a receive call tells say its answer: no refusal has the number 0, and a response has at least seven bytes.
+use Prim.Native.Nat.{ℕ}
+use mathlib.Core.Path.{_≡_, refl}
+use mathlib.Core.Bool.{false}
+use mathlib.Core.List.{List, [], _∷_, _++_}
+use native.Mathlib.Omega.{arith}
+use borrow.Author.Tests.{ne-eqb}
+use lib.Dec.{eqb, ltb}
+use lib.ListN.{length, length-append}
+use Rattle.packet.specs.Answer.{refusalOf, takenOf, sizeOf, outcomeTold}
+use Rattle.packet.specs.Packet.{whole, checksum, header, sealed, packetOf}
+use Rattle.packet.specs.Receiver.{Received}
+use Rattle.packet.proofs.Cases.{cond-cases}
+use Rattle.command.specs.Controller.{inRule}
+use Rattle.command.specs.Response.{responseType, responseData, response}
+use Rattle.command.specs.Endpoint.{takenBy, arrivedIn, judgedIn, responseIn, After, receiveCall}
+use Rattle.command.specs.declared.controller.Controller.{Controller}
+
+abbrev Says : After → Type 0
+Says x = outcomeTold (refusalOf (x .answer)) (takenOf (x .answer)) (sizeOf (x .answer)) ≡ x .answer
+
+some-bytes : (c : Controller) (t : Received) → eqb (length (responseIn c t)) 0 ≡ false
+unfolding responseIn response packetOf sealed
+some-bytes c t =
+    let j = judgedIn c t in
+    let d = responseData (c .settings) j in
+    let front = header (responseType j) (arrivedIn t .cmd1) (arrivedIn t .cmd2) whole (length d) ++ d in
+    ne-eqb (length (responseIn c t)) 0 (λ h. omega (arith, length-append front (checksum front ∷ [])))
+
+told-answer : (c : Controller) (input out : List ℕ) → Says (receiveCall c input out)
+unfolding receiveCall
+told-answer c input out =
+    cond-cases Says (ltb (length out) 64) (λ _. refl)
+    (λ _. cond-cases Says (inRule c)
+    (λ _. cond-cases Says (takenBy c input .complete) (λ _. rw (some-bytes c (takenBy c input))) (λ _. refl))
+    (λ _. refl))
+
+pub numbers-say : (c : Controller) (input out : List ℕ) {refusal taken size : ℕ}
+    → let a = receiveCall c input out .answer in refusal ≡ refusalOf a → taken ≡ takenOf a → size ≡ sizeOf a → outcomeTold refusal taken size ≡ a
+numbers-say c input out e f g = rw (e, f, g) (told-answer c input out)

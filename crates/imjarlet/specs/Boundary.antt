@@ -1,0 +1,63 @@
+-- The calls at the boundary to C and Rust: what each answers, by the calls of the crates below. A refusal is document 01's number, 0 where there is none.
+use Prim.Native.Nat.{ℕ}
+use mathlib.Core.Path.{_≡_}
+use mathlib.Core.Bool.{cond}
+use mathlib.Core.List.{List}
+use lib.Dec.{eqb, ltb}
+use lib.ListN.{length}
+use Rattle.packet.specs.Answer.{refusalOf, takenOf, sizeOf, outcomeTold}
+use Rattle.command.specs.Table.{commandOf}
+use Rattle.command.specs.Settings.{valuesOf, factory}
+use Rattle.command.specs.declared.settings.Settings.{Settings}
+use Rattle.command.specs.declared.controller.Controller.{Controller}
+use Rattle.command.specs.declared.table.Found.{Found}
+use Rattle.command.specs.declared.table.Found.the-variants.{Known, Unknown}
+use Rattle.command.specs.Value.{valueFrom}
+use Rattle.command.specs.Endpoint as endpoint
+use Rattle.command.specs.Encoder as encoding
+use Rattle.report.specs.Report as tuning
+use Rattle.report.specs.Claim.{Demand3}
+use Rattle.imjarlet.specs.declared.verdict.Verdict.{Verdict}
+
+-- A receive call that does as `after` says: the refusal, the bytes taken, the response's length (0: "waiting"), the controller and the output afterwards.
+pub record Receives (after : endpoint.After) (refusal taken size : ℕ) (controller : Controller) (output : List ℕ) : Type 0 where
+  pub refused : refusal ≡ refusalOf (after .answer)
+  pub count : taken ≡ takenOf (after .answer)
+  pub response : size ≡ sizeOf (after .answer)
+  pub leaves : controller ≡ after .controller
+  pub written : output ≡ after .output
+  -- the three numbers say the answer
+  pub says : outcomeTold refusal taken size ≡ after .answer
+
+-- A call of the encoder, or of the standard list, that does as `after` says: the refusal, the length written at the output's start, the output afterwards.
+pub record Emits (after : encoding.After) (refusal size : ℕ) (output : List ℕ) : Type 0 where
+  pub refused : refusal ≡ encoding.refusalOf (after .answer)
+  pub count : size ≡ encoding.sizeOf (after .answer)
+  pub written : output ≡ after .output
+
+-- The encoder by a command's bytes: what the settings have for it. A command that is not in the table is refused with 2, after 1.
+abbrev pub writeFor : Found → Settings → List ℕ → encoding.After
+writeFor Unknown s out = encoding.refused (cond (ltb (length out) 64) 1 2) out
+writeFor (Known c) s out = encoding.encodeCall (valueFrom c (valuesOf c s)) out
+
+unfoldable pub writeCall : ℕ → ℕ → Settings → List ℕ → encoding.After
+writeCall cmd1 cmd2 s out = writeFor (commandOf cmd1 cmd2) s out
+
+-- A report: the winner, its score and its end settings, or a refusal's number and place.
+unfoldable pub verdictOf : tuning.Verdict → Verdict
+verdictOf (tuning.Accepted k score s) = record { place = 0; trial = k; score = score; settings = s }
+verdictOf (tuning.Refused n p) = record { place = p; trial = 0; score = 0; settings = factory }
+
+unfoldable pub refusalIn : tuning.Verdict → ℕ
+refusalIn (tuning.Accepted k score s) = 0
+refusalIn (tuning.Refused n p) = n
+
+-- what the numbers say: yes exactly where the refusal is 0
+unfoldable pub toldBy : ℕ → Verdict → tuning.Verdict
+toldBy refusal v = cond (eqb refusal 0) (tuning.Accepted (v .trial) (v .score) (v .settings)) (tuning.Refused refusal (v .place))
+
+-- a call that judges the report: every number of it is determined, and what they say is what demand 3 asks
+pub record Judges (report : List ℕ) (refusal : ℕ) (v : Verdict) : Type 0 where
+  pub refused : refusal ≡ refusalIn (tuning.verdict report)
+  pub filled : v ≡ verdictOf (tuning.verdict report)
+  pub claim : Demand3 report (toldBy refusal v)
