@@ -1,0 +1,13 @@
+/* The kit's compiler comes without headers: the fixed widths by its own names for the target's types. */
+#ifndef STDINT_H
+#define STDINT_H
+
+typedef __UINT8_TYPE__ uint8_t;
+typedef __UINT16_TYPE__ uint16_t;
+typedef __UINT32_TYPE__ uint32_t;
+typedef __UINT64_TYPE__ uint64_t;
+typedef __UINTPTR_TYPE__ uintptr_t;
+
+#define UINT32_MAX __UINT32_MAX__
+
+#endif
