@@ -50,40 +50,57 @@ fn display_setting(q: DisplaySetting) -> bool
     (q.long <= 1) & (q.short <= 1) & (q.rotate <= 1)
 }
 
-// 02 00: X and Y are a listed pair. The pairs stand in the order of the list, from its end.
+// An X and a Y of 02 00.
+struct Pair {
+    x: u16,
+    y: u16,
+}
+
+// The listed pairs.
+const PAIRS: [Pair; 26] = [
+    Pair { x: 240, y: 320 },
+    Pair { x: 320, y: 240 },
+    Pair { x: 240, y: 427 },
+    Pair { x: 427, y: 240 },
+    Pair { x: 430, y: 640 },
+    Pair { x: 640, y: 430 },
+    Pair { x: 480, y: 640 },
+    Pair { x: 640, y: 480 },
+    Pair { x: 480, y: 720 },
+    Pair { x: 720, y: 480 },
+    Pair { x: 480, y: 752 },
+    Pair { x: 752, y: 480 },
+    Pair { x: 480, y: 800 },
+    Pair { x: 800, y: 480 },
+    Pair { x: 480, y: 852 },
+    Pair { x: 852, y: 480 },
+    Pair { x: 480, y: 853 },
+    Pair { x: 853, y: 480 },
+    Pair { x: 480, y: 854 },
+    Pair { x: 854, y: 480 },
+    Pair { x: 864, y: 480 },
+    Pair { x: 720, y: 240 },
+    Pair { x: 720, y: 288 },
+    Pair { x: 360, y: 640 },
+    Pair { x: 640, y: 360 },
+    Pair { x: 608, y: 684 },
+];
+
+// 02 00: X and Y are a listed pair. The factory's stands last, and is tried first.
 fn video_input(q: VideoInput) -> bool
     ensures { λ r. ⌜ r ≡ allowedIn command.VideoInput (inputValues q) ⌝ }
 {
     let x = q.x;
     let y = q.y;
-    let mut listed = false;
-    listed = ((x == 608) & (y == 684)) | listed;
-    listed = ((x == 640) & (y == 360)) | listed;
-    listed = ((x == 360) & (y == 640)) | listed;
-    listed = ((x == 720) & (y == 288)) | listed;
-    listed = ((x == 720) & (y == 240)) | listed;
-    listed = ((x == 864) & (y == 480)) | listed;
-    listed = ((x == 854) & (y == 480)) | listed;
-    listed = ((x == 480) & (y == 854)) | listed;
-    listed = ((x == 853) & (y == 480)) | listed;
-    listed = ((x == 480) & (y == 853)) | listed;
-    listed = ((x == 852) & (y == 480)) | listed;
-    listed = ((x == 480) & (y == 852)) | listed;
-    listed = ((x == 800) & (y == 480)) | listed;
-    listed = ((x == 480) & (y == 800)) | listed;
-    listed = ((x == 752) & (y == 480)) | listed;
-    listed = ((x == 480) & (y == 752)) | listed;
-    listed = ((x == 720) & (y == 480)) | listed;
-    listed = ((x == 480) & (y == 720)) | listed;
-    listed = ((x == 640) & (y == 480)) | listed;
-    listed = ((x == 480) & (y == 640)) | listed;
-    listed = ((x == 640) & (y == 430)) | listed;
-    listed = ((x == 430) & (y == 640)) | listed;
-    listed = ((x == 427) & (y == 240)) | listed;
-    listed = ((x == 240) & (y == 427)) | listed;
-    listed = ((x == 320) & (y == 240)) | listed;
-    listed = ((x == 240) & (y == 320)) | listed;
-    listed
+    let mut k = PAIRS.len();
+    while 0 < k {
+        k -= 1;
+        let p = PAIRS[k];
+        if (x == p.x) & (y == p.y) {
+            return true;
+        }
+    }
+    false
 }
 
 // 02 01: frame rate, depth, LED.
