@@ -1,11 +1,10 @@
 -- The receive call: when it refuses, and what it answers and leaves.
 use Prim.Native.Nat.{ℕ}
-use mathlib.Core.Path.{_≡_}
 use mathlib.Core.Bool.{cond}
 use mathlib.Core.List.{List}
 use lib.Dec.{ltb}
 use lib.ListN.{length, take}
-use Rattle.packet.specs.Answer.{Outcome, Refuses, Waits, Answers, outcomeOf}
+use Rattle.packet.specs.Answer.{Outcome, Refuses, Waits, Answers}
 use Rattle.packet.specs.Packet.{payloadLength}
 use Rattle.packet.specs.Receiver.{Receiver, Received, receiving}
 use Rattle.packet.specs.Writer.{written}
@@ -19,7 +18,6 @@ use Rattle.command.specs.declared.transfer.TransferState.{TransferState}
 use Rattle.command.specs.declared.judgement.Judgement.{Judgement}
 use Rattle.command.specs.declared.controller.Registers.{Registers}
 use Rattle.command.specs.declared.controller.Controller.{Controller}
-use Rattle.command.specs.declared.endpoint.Served.{Served}
 
 -- the bytes taken by the receiver; the checksum covers every byte of a packet, from place 0 on
 abbrev pub takenBy : Controller → List ℕ → Received
@@ -100,17 +98,3 @@ receiveCall c input out =
     (cond (inRule c)
     (cond (takenBy c input .complete) (answered c (takenBy c input) out) (waiting c (takenBy c input) out))
     (refused 3 c out))
-
--- The call where the controller's arrays are lent apart from its settings and registers.
-
-abbrev pub controllerOf : Settings → Registers → List ℕ → List ℕ → Controller
-controllerOf s r buffer hold = record { settings = s; registers = r; buffer = buffer; hold = hold }
-
--- what it answers and leaves, by its result and the arrays and the output that it left
-abbrev pub afterOf : Served → List ℕ → List ℕ → List ℕ → After
-afterOf s buffer hold out =
-    record { answer = outcomeOf (s .answer); controller = controllerOf (s .settings) (s .registers) buffer hold; output = out }
-
--- settings that are not to be stored are those that came in
-abbrev pub keepsUnstored : Settings → Served → Type 0
-keepsUnstored settings s = cond (s .stored) (s .settings) settings ≡ s .settings

@@ -17,5 +17,6 @@ pub mod Encoder
 pub mod Sending
 pub mod Demand1
 pub mod Demand2
+pub mod Lent
 pub mod Inner
 pub mod Computing

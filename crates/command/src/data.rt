@@ -31,7 +31,7 @@ pub(crate) fn long_at(d: &[u8], at: usize) -> u32
 }
 
 // The longest data of a command, 04 00's.
-const ROOM: usize = 17;
+pub(crate) const ROOM: usize = 17;
 
 // Data that are put together: the first `count` bytes are theirs.
 pub(crate) struct Data {

@@ -18,13 +18,14 @@ ghost use lib.ListN.{length};
 ghost use Rattle.packet.specs.Answer.{outcomeOf};
 ghost use Rattle.command.specs.Controller.{transferOf, transferInRule, partsInRule};
 ghost use Rattle.command.specs.Inner.{settled};
-ghost use Rattle.command.specs.Endpoint.{receiveCall, controllerOf, afterOf, keepsUnstored};
+ghost use Rattle.command.specs.Endpoint.{receiveCall};
+ghost use Rattle.command.specs.Lent.{controllerOf, afterOf, storedExactly};
 
 // What a call answers, and the settings and the registers that it leaves.
 pub struct Served {
     pub settings: Settings,
     pub registers: Registers,
-    // Whether the settings are to be stored: a packet was complete. Otherwise they are as before.
+    // Whether the settings are to be stored: a packet was complete. Otherwise they are as they were.
     pub stored: bool,
     pub answer: Answer,
 }
@@ -51,7 +52,7 @@ fn settle(
 ) -> Served
     requires { ⌜ (transferInRule (transferOf r) ≡ true) × (length (now hold) ≡ 1024) × (64 ≤ length (now out)) ⌝ }
     ensures { λ s. ⌜ (afterOf s (now (buffer .exit)) (now (hold .entry)) (now (out .exit)) ≡ settled (controllerOf settings r (now (buffer .entry)) (now (hold .entry))) right taken (now (out .entry)))
-        × keepsUnstored settings s ⌝ }
+        × storedExactly s ⌝ }
 {
     let header = r.header;
     let n = kept(packet::word(header[4], header[5]));
@@ -80,7 +81,7 @@ fn advance(
 ) -> Served
     requires { ⌜ (partsInRule settings r ≡ true) × (64 ≤ length (now out)) ⌝ }
     ensures { λ s. ⌜ (afterOf s (now (buffer .exit)) (now (hold .exit)) (now (out .exit)) ≡ receiveCall (controllerOf settings r (now (buffer .entry)) (now (hold .entry))) (now (input .entry)) (now (out .entry)))
-        × keepsUnstored settings s ⌝ }
+        × storedExactly s ⌝ }
 {
     let mut header = r.header;
     let t = packet::receive(
@@ -115,7 +116,7 @@ pub fn serve(
     out: &mut [u8],
 ) -> Served
     ensures { λ s. ⌜ (afterOf s (now (buffer .exit)) (now (hold .exit)) (now (out .exit)) ≡ receiveCall (controllerOf settings r (now (buffer .entry)) (now (hold .entry))) (now (input .entry)) (now (out .entry)))
-        × keepsUnstored settings s ⌝ }
+        × storedExactly s ⌝ }
 {
     if out.len() < OUTPUT {
         return Served {

@@ -1,5 +1,6 @@
 // The response that a judgement draws.
 use crate::data::Data;
+use crate::data::ROOM;
 use crate::faults::Codes;
 use crate::judgement::Judgement;
 use crate::output::emit;
@@ -10,39 +11,38 @@ ghost use mathlib.Core.Bool.{cond};
 ghost use mathlib.Core.List.{[], _∷_, _++_};
 ghost use mathlib.Core.Path.{_≡_};
 ghost use Prim.Native.Nat.{_+_, _≤_};
-ghost use lib.ListN.{length};
+ghost use lib.ListN.{length, take};
 ghost use Rattle.packet.specs.Packet.{packetOf, whole};
 ghost use Rattle.packet.specs.Writer.{written};
-ghost use Rattle.command.specs.Inner.{Holds, contents};
+ghost use Rattle.command.specs.Inner.{Holds};
 ghost use Rattle.command.specs.Faults.{codesOf};
 ghost use Rattle.command.specs.Response.{responseType, responseData};
 
-// The data with one code more, where its fault holds.
-fn with_code(d: Data, holds: bool, code: u8) -> Data
-    requires { ⌜ d .count + 1 ≤ 17 ⌝ }
-    ensures { λ r. ⌜ (contents r ≡ contents d ++ cond holds (code ∷ []) []) × (r .count ≤ d .count + 1) ⌝ }
+// Puts a code behind the first n bytes, where its fault holds. How many bytes there are then.
+fn put_code(bytes: &mut [u8], n: usize, holds: bool, code: u8) -> usize
+    requires { ⌜ n + 1 ≤ length (now bytes) ⌝ }
+    ensures { λ r. ⌜ (take r (now (bytes .exit)) ≡ take n (now (bytes .entry)) ++ cond holds (code ∷ []) []) × (r ≤ n + 1) ⌝ }
 {
-    let at = d.count;
-    let mut more = d;
     if holds {
-        more.bytes[at] = code;
-        more.count = at + 1;
+        bytes[n] = code;
+        return n + 1;
     }
-    more
+    n
 }
 
 // One byte for each code, ascending.
 fn codes_data(k: Codes) -> Data
     ensures { λ r. ⌜ Holds r (codesOf k) ⌝ }
 {
-    let mut d = Data::EMPTY;
-    d = with_code(d, k.command, 0x02);
-    d = with_code(d, k.parameter, 0x03);
-    d = with_code(d, k.memory, 0x04);
-    d = with_code(d, k.precondition, 0x07);
-    d = with_code(d, k.checksum, 0x09);
-    d = with_code(d, k.format, 0x0A);
-    with_code(d, k.continuation, 0x0B)
+    let mut bytes = [0u8; ROOM];
+    let mut n = put_code(&mut bytes, 0, k.command, 0x02);
+    n = put_code(&mut bytes, n, k.parameter, 0x03);
+    n = put_code(&mut bytes, n, k.memory, 0x04);
+    n = put_code(&mut bytes, n, k.precondition, 0x07);
+    n = put_code(&mut bytes, n, k.checksum, 0x09);
+    n = put_code(&mut bytes, n, k.format, 0x0A);
+    n = put_code(&mut bytes, n, k.continuation, 0x0B);
+    Data { bytes, count: n }
 }
 
 // The type of the response.

@@ -92,10 +92,11 @@ fn video_input(q: VideoInput) -> bool
 {
     let x = q.x;
     let y = q.y;
-    let mut k = PAIRS.len();
+    let pairs = PAIRS;
+    let mut k = pairs.len();
     while 0 < k {
         k -= 1;
-        let p = PAIRS[k];
+        let p = pairs[k];
         if (x == p.x) & (y == p.y) {
             return true;
         }

@@ -35,7 +35,12 @@ impl TransferState {
     pub(crate) fn in_rule(self) -> bool
         ensures { λ r. ⌜ r ≡ transferInRule self ⌝ }
     {
-        let known = Command::find(self.cmd1, self.cmd2).known();
-        (self.held <= HOLD) & ((self.active == 0) | known)
+        if HOLD < self.held {
+            return false;
+        }
+        if self.active == 0 {
+            return true;
+        }
+        Command::find(self.cmd1, self.cmd2).known()
     }
 }

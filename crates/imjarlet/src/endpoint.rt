@@ -6,7 +6,8 @@ use command::Settings;
 ghost use mathlib.Core.Path.{_≡_};
 ghost use mathlib.Core.Bool.{cond};
 ghost use Rattle.command.specs.Controller.{fresh};
-ghost use Rattle.command.specs.Endpoint.{receiveCall, controllerOf};
+ghost use Rattle.command.specs.Endpoint.{receiveCall};
+ghost use Rattle.command.specs.Lent.{controllerOf};
 ghost use Rattle.imjarlet.specs.Boundary.{Receives};
 
 // Puts a fresh controller where the caller has one, whatever stood there.

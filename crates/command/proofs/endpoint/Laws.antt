@@ -5,6 +5,7 @@ use mathlib.Core.Bool.{Bool, true, false, cond}
 use mathlib.Core.List.{List, [], _∷_, _++_}
 use mathlib.Core.Option.{none, some}
 use native.Mathlib.Omega.{arith}
+use lib.Dec.{ltb}
 use lib.ListN.{length, take, length-take, drop}
 use lib.Seq.{sets, length-sets, take-at}
 use borrow.Author.Tests.{lt-ltb, le-ltb, ltb-true}
@@ -12,14 +13,15 @@ use Rattle.packet.specs.Calls.{servedOne}
 use Rattle.packet.specs.Packet.{payloadLength}
 use Rattle.packet.specs.Receiver.{Receiver, Received, with, missing, waiting as receiverWaiting, completed, packetInRule}
 use Rattle.packet.specs.Writer.{written}
-use Rattle.packet.proofs.Cases.{lt-cases}
+use Rattle.packet.proofs.Cases.{lt-cases, cond-cases}
 use Rattle.packet.proofs.Calls.{Streaming, shifted, AnyOutput, at-once as sent-at-once}
 use Rattle.packet.proofs.ReceiverLaws.{with-nil, hold-length, missing-least, after, cut, behind, waits, completes}
 use Rattle.command.specs.Transfer.{held}
 use Rattle.command.specs.Judgement.{judge}
 use Rattle.command.specs.Carry.{settingsAfter}
-use Rattle.command.specs.Controller.{transferOf, heldIn, transferIn, receiverIn}
+use Rattle.command.specs.Controller.{transferOf, heldIn, transferIn, receiverIn, inRule}
 use Rattle.command.specs.Endpoint.{takenBy, arrivedIn, judgedIn, responseIn, registersOf, carriedOut, After, waiting, answered, receiveCall}
+use Rattle.command.specs.Lent.{isAnswered}
 use Rattle.command.specs.Sending.{shown, serves, Sending, sentTo, Ready}
 use Rattle.command.specs.declared.controller.Controller.{Controller}
 use Rattle.command.proofs.rules.Laws.{kept-by, in-rule-of}
@@ -32,6 +34,17 @@ use Rattle.command.proofs.player.Laws.{kept-judgement}
 -- a call that is not refused, by what the receiver took
 abbrev pub ends : Controller → List ℕ → Received → After
 ends c out t = cond (t .complete) (answered c t out) (waiting c t out)
+
+-- a call that completes no packet leaves the settings
+pub unanswered-keeps : (c : Controller) (input out : List ℕ)
+    → let r = receiveCall c input out in cond (isAnswered (r .answer)) (r .controller .settings) (c .settings) ≡ r .controller .settings
+unfolding receiveCall
+unanswered-keeps c input out =
+    cond-cases Keeps (ltb (length out) 64) (λ _. refl)
+    (λ _. cond-cases Keeps (inRule c) (λ _. cond-cases Keeps (takenBy c input .complete) (λ _. refl) (λ _. refl)) (λ _. refl))
+  where
+    Keeps : After → Type 0
+    Keeps r = cond (isAnswered (r .answer)) (r .controller .settings) (c .settings) ≡ r .controller .settings
 
 -- the controller with this receiver
 abbrev pub receivedBy : Controller → Receiver → Controller

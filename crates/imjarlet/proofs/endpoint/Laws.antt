@@ -1,20 +1,23 @@
--- The numbers that a receive call tells say its answer: no refusal has the number 0, and a response has at least seven bytes.
+-- What a receive call leaves of the settings, and what its numbers say: no refusal has the number 0, and a response has at least seven bytes.
 use Prim.Native.Nat.{ℕ}
 use mathlib.Core.Path.{_≡_, refl}
-use mathlib.Core.Bool.{false}
+use mathlib.Core.Bool.{Bool, false, cond}
 use mathlib.Core.List.{List, [], _∷_, _++_}
 use native.Mathlib.Omega.{arith}
 use borrow.Author.Tests.{ne-eqb}
 use lib.Dec.{eqb, ltb}
 use lib.ListN.{length, length-append}
-use Rattle.packet.specs.Answer.{refusalOf, takenOf, sizeOf, outcomeTold}
+use Rattle.packet.specs.Answer.{Outcome, refusalOf, takenOf, sizeOf, outcomeTold}
 use Rattle.packet.specs.Packet.{whole, checksum, header, sealed, packetOf}
 use Rattle.packet.specs.Receiver.{Received}
 use Rattle.packet.proofs.Cases.{cond-cases}
 use Rattle.command.specs.Controller.{inRule}
 use Rattle.command.specs.Response.{responseType, responseData, response}
 use Rattle.command.specs.Endpoint.{takenBy, arrivedIn, judgedIn, responseIn, After, receiveCall}
+use Rattle.command.specs.Lent.{isAnswered}
+use Rattle.command.specs.declared.settings.Settings.{Settings}
 use Rattle.command.specs.declared.controller.Controller.{Controller}
+use Rattle.command.proofs.EndpointLaws.{unanswered-keeps}
 
 abbrev Says : After → Type 0
 Says x = outcomeTold (refusalOf (x .answer)) (takenOf (x .answer)) (sizeOf (x .answer)) ≡ x .answer
@@ -38,3 +41,8 @@ told-answer c input out =
 pub numbers-say : (c : Controller) (input out : List ℕ) {refusal taken size : ℕ}
     → let a = receiveCall c input out .answer in refusal ≡ refusalOf a → taken ≡ takenOf a → size ≡ sizeOf a → outcomeTold refusal taken size ≡ a
 numbers-say c input out e f g = rw (e, f, g) (told-answer c input out)
+
+-- settings that are stored exactly where the call answered are those that it leaves
+pub stored-settings : (c : Controller) (input out : List ℕ) {a : Outcome} {s : Settings} {stored : Bool}
+    → let r = receiveCall c input out in a ≡ r .answer → s ≡ r .controller .settings → stored ≡ isAnswered a → cond stored s (c .settings) ≡ s
+stored-settings c input out e f g = rw (g, e, f) (unanswered-keeps c input out)

@@ -10,7 +10,8 @@ use lib.ListN.{length}
 use Rattle.packet.specs.Receiver.{Received, receivedOf, receiving}
 use Rattle.command.specs.Controller.{transferOf, receiverIn, inRule}
 use Rattle.command.specs.Inner.{settled}
-use Rattle.command.specs.Endpoint.{registersOf, judgedIn, responseIn, After, waiting, receiveCall, controllerOf}
+use Rattle.command.specs.Endpoint.{registersOf, judgedIn, responseIn, After, waiting, receiveCall}
+use Rattle.command.specs.Lent.{controllerOf}
 use Rattle.command.specs.declared.controller.Controller.{Controller}
 use Rattle.command.proofs.controller.Laws.{rule-parts}
 use borrow.Author.Needs.{needs}

@@ -31,17 +31,23 @@ listed k p q r s t u v = rw (v, u, t, s, r, q, p) (simp list-append)
 returns : tie.Need-returns
 unfolding listIf
 returns c =
-    let d = c .before .before .before in
-    let e = d .before .before .before in
+    let seventh = c .before in
+    let sixth = seventh .before .before .before in
+    let fifth = sixth .before .before .before in
+    let fourth = fifth .before .before .before in
+    let third = fourth .before .before .before in
+    let second = third .before .before .before in
+    let first = second .before .before .before in
     record {
       bytes =
-          listed (e .before .args .k) (e .with-code .ensures .0) (d .before .before .with-code2 .ensures .0) (d .before .with-code3 .ensures .0) (d .with-code4 .ensures .0)
-          (c .before .before .with-code5 .ensures .0) (c .before .with-code6 .ensures .0) (c .with-code7 .ensures .0);
+          listed (first .before .before .args .k) (first .put-code .ensures .0) (second .put-code2 .ensures .0) (third .put-code3 .ensures .0)
+          (fourth .put-code4 .ensures .0) (fifth .put-code5 .ensures .0) (sixth .put-code6 .ensures .0) (seventh .put-code7 .ensures .0);
       room = omega arith;
     }
 
 pub codes-data-spec : {M : Type 1} → statement M
 codes-data-spec =
     tie.close
-    (tie.spec (λ c κs. search needs) (λ c κs. search needs) (λ c κs. search needs) (λ c κs. search needs) (λ c κs. search needs)
-    (λ c κs. search needs) (λ c κs. search needs) returns)
+    (tie.spec (λ c. search needs) (λ c κs. search needs) (λ c. search needs) (λ c κs. search needs) (λ c. search needs) (λ c κs. search needs)
+    (λ c. search needs) (λ c κs. search needs) (λ c. search needs) (λ c κs. search needs) (λ c. search needs) (λ c κs. search needs)
+    (λ c. search needs) (λ c κs. search needs) returns)

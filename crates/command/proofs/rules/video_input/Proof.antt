@@ -40,10 +40,10 @@ last x y k h l =
     ap (λ (n : ℕ). among x y pairs n) e ∙ one-more x y pairs (k - 1) (omega (arith, h, l))
 
 abbrev Inv-loop : tie.InvT-loop
-Inv-loop x y k₀ k = (k ≤ length pairs) × (listed x y pairs ≡ among x y pairs k)
+Inv-loop x y table k₀ k = (k ≤ length pairs) × (listed x y pairs ≡ among x y pairs k)
 
 abbrev μ-loop : tie.MeasureT-loop
-μ-loop x y k₀ k = k
+μ-loop x y table k₀ k = k
 
 loop-holds : tie.Need-loop-holds Inv-loop μ-loop
 unfolding among

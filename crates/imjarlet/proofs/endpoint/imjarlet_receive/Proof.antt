@@ -4,7 +4,8 @@ use mathlib.Core.Bool.{cond}
 use denote.Struct.Laws.{tells, owed, owes, makes}
 use Rattle.packet.proofs.Lending.{struct-held}
 use Rattle.packet.proofs.Lending.InPlace.{Call, lending, lends}
-use Rattle.command.specs.Endpoint.{receiveCall, controllerOf}
+use Rattle.command.specs.Endpoint.{receiveCall}
+use Rattle.command.specs.Lent.{controllerOf}
 use Rattle.imjarlet.specs.Boundary.{Receives}
 use Rattle.command.proofs.settings.Settings as P
 use Rattle.command.proofs.settings.Settings.Laws as P′

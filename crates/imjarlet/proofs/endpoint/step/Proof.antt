@@ -3,8 +3,9 @@ use mathlib.Core.Path.{ap, _∙_}
 use denote.Ref.{now}
 use borrow.Author.Needs.{needs}
 use Rattle.packet.specs.Answer.{refusalOf, takenOf, sizeOf}
-use Rattle.command.specs.Endpoint.{After, controllerOf}
-use Rattle.imjarlet.proofs.endpoint.Laws.{numbers-say}
+use Rattle.command.specs.Endpoint.{After}
+use Rattle.command.specs.Lent.{controllerOf}
+use Rattle.imjarlet.proofs.endpoint.Laws.{numbers-say, stored-settings}
 use Rattle.imjarlet.proofs.endpoint.step.Statement.{statement}
 use Rattle.imjarlet.proofs.endpoint.step.Tie as tie
 
@@ -14,14 +15,17 @@ returns c =
     let e = s .serve .ensures .0 in
     let a = ap (λ (x : After). x .answer) e in
     let n = c .told .ensures in
-    let u = s .before .before .before .before .before .before in
+    let u = s .before .before .before .before .before .before .args in
+    let came = controllerOf (u .settings) (u .registers) (now (u .buffer)) (now (u .hold)) in
     record {
       refused = n .0 ∙ ap refusalOf a;
       count = n .1 ∙ ap takenOf a;
       response = n .2 ∙ ap sizeOf a;
-      leaves = rw (s .serve .ensures .1) (ap (λ (x : After). x .controller) e);
+      leaves =
+          rw (stored-settings came (now (u .input)) (now (u .out)) a (ap (λ (x : After). x .controller .settings) e) (s .serve .ensures .1))
+          (ap (λ (x : After). x .controller) e);
       written = ap (λ (x : After). x .output) e;
-      says = numbers-say (controllerOf (u .args .settings) (u .args .registers) (now (u .args .buffer)) (now (u .args .hold))) (now (u .args .input)) (now (u .args .out)) (n .0 ∙ ap refusalOf a) (n .1 ∙ ap takenOf a) (n .2 ∙ ap sizeOf a);
+      says = numbers-say came (now (u .input)) (now (u .out)) (n .0 ∙ ap refusalOf a) (n .1 ∙ ap takenOf a) (n .2 ∙ ap sizeOf a);
     }
 
 pub step-spec : {M : Type 1} → statement M
