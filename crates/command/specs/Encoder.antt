@@ -2,7 +2,7 @@
 use Prim.Native.Nat.{ℕ}
 use mathlib.Core.Bool.{cond}
 use mathlib.Core.List.{List, [], _∷_, _++_}
-use lib.Dec.{ltb}
+use lib.Dec.{eqb, ltb}
 use lib.ListN.{length}
 use Rattle.packet.specs.Packet.{packetOf, hostWrite, whole}
 use Rattle.packet.specs.Writer.{written}
@@ -26,15 +26,19 @@ outcomeOf NotAllowed = Refuses 2
 outcomeOf OutOfRule = Refuses 3
 outcomeOf (Length n) = Writes n
 
--- the refusal's number, 0 where there is none
+-- The same as two numbers, for callers that know no enum: the refusal's number, 0 where there is none,
 abbrev pub refusalOf : Outcome → ℕ
 refusalOf (Refuses n) = n
 refusalOf (Writes n) = 0
 
--- the length written, 0 with a refusal
+-- and the length written, 0 with a refusal
 abbrev pub sizeOf : Outcome → ℕ
 sizeOf (Refuses n) = 0
 sizeOf (Writes n) = n
+
+-- what these two numbers say
+abbrev pub outcomeTold : ℕ → ℕ → Outcome
+outcomeTold refusal size = cond (eqb refusal 0) (Writes size) (Refuses refusal)
 
 -- the whole-packet write of a command with its data
 unfoldable pub writePacket : Command → List ℕ → List ℕ

@@ -3,9 +3,8 @@
 use crate::device::Device;
 use crate::states::States;
 ghost use mathlib.Core.Path.{_≡_};
-ghost use Rattle.packet.specs.Answer.{refusalOf, takenOf, sizeOf};
 ghost use Rattle.dlpc200.specs.Device.{deviceWith};
-ghost use Rattle.dlpc200.specs.Endpoint.{receiveCall};
+ghost use Rattle.dlpc200.specs.Endpoint.{receiveCall, Receives};
 ghost use Rattle.dlpc200.specs.Status.{faultBits};
 
 // The device after a call, and the refusal's number.
@@ -16,11 +15,8 @@ struct Stepped {
 
 // The receive call with its answer told as numbers.
 fn step(device: Device, input: &[u8], out: &mut [u8], taken: &mut u64, size: &mut u64) -> Stepped
-    ensures { λ r. ⌜ (r .device ≡ receiveCall device (now (input .entry)) (now (out .entry)) .device)
-        × (r .refusal ≡ refusalOf (receiveCall device (now (input .entry)) (now (out .entry)) .answer))
-        × (now (taken .exit) ≡ takenOf (receiveCall device (now (input .entry)) (now (out .entry)) .answer))
-        × (now (size .exit) ≡ sizeOf (receiveCall device (now (input .entry)) (now (out .entry)) .answer))
-        × (now (out .exit) ≡ receiveCall device (now (input .entry)) (now (out .entry)) .output) ⌝ }
+    ensures { λ r. ⌜ Receives (receiveCall device (now (input .entry)) (now (out .entry)))
+        (r .refusal) (now (taken .exit)) (now (size .exit)) (r .device) (now (out .exit)) ⌝ }
 {
     let s = crate::endpoint::receive(device, input, out);
     let after = s.device;
@@ -35,7 +31,7 @@ fn step(device: Device, input: &[u8], out: &mut [u8], taken: &mut u64, size: &mu
 // A device between two packets, with the states that the host supplies.
 #[no_mangle]
 pub extern "C" fn dlpc200_reset(device: &mut Device, states: &States) -> u32
-    ensures { λ r. ⌜ (now (device .exit) ≡ deviceWith (now (states .entry))) × (r ≡ 0) ⌝ }
+    ensures { λ r. ⌜ (r ≡ 0) × (now (device .exit) ≡ deviceWith (now (states .entry))) ⌝ }
 {
     *device = Device::with(*states);
     0
@@ -50,11 +46,8 @@ pub extern "C" fn dlpc200_receive(
     taken: &mut u64,
     size: &mut u64,
 ) -> u32
-    ensures { λ r. ⌜ (now (device .exit) ≡ receiveCall (now (device .entry)) (now (input .entry)) (now (out .entry)) .device)
-        × (r ≡ refusalOf (receiveCall (now (device .entry)) (now (input .entry)) (now (out .entry)) .answer))
-        × (now (taken .exit) ≡ takenOf (receiveCall (now (device .entry)) (now (input .entry)) (now (out .entry)) .answer))
-        × (now (size .exit) ≡ sizeOf (receiveCall (now (device .entry)) (now (input .entry)) (now (out .entry)) .answer))
-        × (now (out .exit) ≡ receiveCall (now (device .entry)) (now (input .entry)) (now (out .entry)) .output) ⌝ }
+    ensures { λ r. ⌜ Receives (receiveCall (now (device .entry)) (now (input .entry)) (now (out .entry)))
+        r (now (taken .exit)) (now (size .exit)) (now (device .exit)) (now (out .exit)) ⌝ }
 {
     let s = step(*device, input, out, taken, size);
     *device = s.device;

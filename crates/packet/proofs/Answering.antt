@@ -1,4 +1,4 @@
--- How a call refuses that tests its output's length first and one thing more: the law behind `Answering`, and what the numbers of a receive call's answers tell apart.
+-- How a call refuses that tests its output's length first and one thing more: the law behind `Answering`; and what the numbers of a receive call's answers tell apart, and say.
 use Prim.Native.Nat.{ℕ}
 use mathlib.Core.Path.{_≡_, refl, sym, _∙_}
 use mathlib.Core.Logic.{_↔_, inl, inr}
@@ -6,9 +6,9 @@ use mathlib.Core.Bool.{Bool, true, false, cond}
 use mathlib.Core.List.{List}
 use native.Mathlib.Omega.{arith}
 use borrow.Author.Tests.{ltb-true, ltb-false}
-use lib.Dec.{ltb}
+use lib.Dec.{eqb, ltb}
 use lib.ListN.{length}
-use Rattle.packet.specs.Answer.{Refuses, Waits, Answers, Answering}
+use Rattle.packet.specs.Answer.{Outcome, Refuses, Waits, Answers, outcomeTold, Told, Answering}
 use Rattle.packet.specs.Receiver.{Receiver, Received, missing, waiting, completed, receiving}
 use Rattle.packet.proofs.Cases.{cond-cases}
 
@@ -60,6 +60,17 @@ answers-not-refused h = let z : _≡_ {A = ℕ} 0 1 = cc in omega arith
 
 pub waits-not-refused : {k n : ℕ} → Waits k ≡ Refuses n → ⊥
 waits-not-refused h = let z : _≡_ {A = ℕ} 0 1 = cc in omega arith
+
+-- an answer that its numbers say: no refusal is 0, and a response is not empty
+abbrev pub Sayable : Outcome → Type 0
+Sayable (Refuses n) = eqb n 0 ≡ false
+Sayable (Waits n) = Unit {0}
+Sayable (Answers n m) = eqb m 0 ≡ false
+
+pub numbers-say : (o : Outcome) → Sayable o → {refusal taken size : ℕ} → Told o refusal taken size → outcomeTold refusal taken size ≡ o
+numbers-say (Refuses n) h t = rw (t .refused, h)
+numbers-say (Waits n) h t = rw (t .refused, t .count, t .response)
+numbers-say (Answers n m) h t = rw (t .refused, t .count, t .response, h)
 
 -- a receiver that completes no packet takes all bytes
 pub all-taken : (k : ℕ) (r : Receiver) (b : List ℕ) → receiving k r b .complete ≡ false → receiving k r b .taken ≡ length b

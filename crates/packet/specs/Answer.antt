@@ -28,6 +28,13 @@ takenOf (Refuses n) = 0
 takenOf (Waits n) = n
 takenOf (Answers n m) = n
 
+abbrev pub responseOf : Outcome → List ℕ → Option (List ℕ)
+responseOf (Refuses n) out = none
+responseOf (Waits n) out = none
+responseOf (Answers n m) out = some (take m out)
+
+-- An answer as three numbers, for callers that know no enum: the refusal's number, the bytes taken, the response's length.
+
 -- the refusal's number, 0 where there is none
 abbrev pub refusalOf : Outcome → ℕ
 refusalOf (Refuses n) = n
@@ -40,14 +47,15 @@ sizeOf (Refuses n) = 0
 sizeOf (Waits n) = 0
 sizeOf (Answers n m) = m
 
--- what these three numbers say: a refusal; "waiting" where there is no response; "answered"
+-- what three such numbers say: a refusal; "waiting" where there is no response; "answered"
 abbrev pub outcomeTold : ℕ → ℕ → ℕ → Outcome
 outcomeTold refusal taken size = cond (eqb refusal 0) (cond (eqb size 0) (Waits taken) (Answers taken size)) (Refuses refusal)
 
-abbrev pub responseOf : Outcome → List ℕ → Option (List ℕ)
-responseOf (Refuses n) out = none
-responseOf (Waits n) out = none
-responseOf (Answers n m) out = some (take m out)
+-- three numbers that tell an answer
+pub record Told (o : Outcome) (refusal taken size : ℕ) : Type 0 where
+  pub refused : refusal ≡ refusalOf o
+  pub count : taken ≡ takenOf o
+  pub response : size ≡ sizeOf o
 
 -- How a call answers that is lent the output `out`; `Refused n` says that it answers refusal n. In the order of the table:
 pub record Answering (Refused : ℕ → Type 0) (out : List ℕ) (shortest second : ℕ) (Holds Untouched Fine : Type 0) : Type 0 where

@@ -1,6 +1,5 @@
 // What a receive call answers, on every kind of head.
-ghost use mathlib.Core.Path.{_≡_};
-ghost use Rattle.packet.specs.Answer.{outcomeOf, takenOf, refusalOf, sizeOf};
+ghost use Rattle.packet.specs.Answer.{outcomeOf, Told};
 
 pub enum Answer {
     // The input ended before a packet did; all of it was taken.
@@ -21,7 +20,7 @@ pub enum Answer {
 // An answer as numbers, for callers that know no enum: the refusal's number or 0, the bytes taken,
 // and the response's length, 0 where there is none.
 pub fn told(a: Answer, taken: &mut u64, size: &mut u64) -> u32
-    ensures { λ r. ⌜ (r ≡ refusalOf (outcomeOf a)) × (now (taken .exit) ≡ takenOf (outcomeOf a)) × (now (size .exit) ≡ sizeOf (outcomeOf a)) ⌝ }
+    ensures { λ r. ⌜ Told (outcomeOf a) r (now (taken .exit)) (now (size .exit)) ⌝ }
 {
     *taken = 0;
     *size = 0;

@@ -7,10 +7,11 @@ use native.Mathlib.Omega.{arith}
 use borrow.Author.Tests.{ne-eqb}
 use lib.Dec.{eqb, ltb}
 use lib.ListN.{length, length-append}
-use Rattle.packet.specs.Answer.{Outcome, refusalOf, takenOf, sizeOf, outcomeTold}
+use Rattle.packet.specs.Answer.{Outcome}
 use Rattle.packet.specs.Packet.{whole, checksum, header, sealed, packetOf}
 use Rattle.packet.specs.Receiver.{Received}
 use Rattle.packet.proofs.Cases.{cond-cases}
+use Rattle.packet.proofs.Answering.{Sayable}
 use Rattle.command.specs.Controller.{inRule}
 use Rattle.command.specs.Response.{responseType, responseData, response}
 use Rattle.command.specs.Endpoint.{takenBy, arrivedIn, judgedIn, responseIn, After, receiveCall}
@@ -18,9 +19,6 @@ use Rattle.command.specs.Lent.{isAnswered}
 use Rattle.command.specs.declared.settings.Settings.{Settings}
 use Rattle.command.specs.declared.controller.Controller.{Controller}
 use Rattle.command.proofs.EndpointLaws.{unanswered-keeps}
-
-abbrev Says : After → Type 0
-Says x = outcomeTold (refusalOf (x .answer)) (takenOf (x .answer)) (sizeOf (x .answer)) ≡ x .answer
 
 some-bytes : (c : Controller) (t : Received) → eqb (length (responseIn c t)) 0 ≡ false
 unfolding responseIn response packetOf sealed
@@ -30,17 +28,14 @@ some-bytes c t =
     let front = header (responseType j) (arrivedIn t .cmd1) (arrivedIn t .cmd2) whole (length d) ++ d in
     ne-eqb (length (responseIn c t)) 0 (λ h. omega (arith, length-append front (checksum front ∷ [])))
 
-told-answer : (c : Controller) (input out : List ℕ) → Says (receiveCall c input out)
+pub answer-sayable : (c : Controller) (input out : List ℕ) → Sayable (receiveCall c input out .answer)
 unfolding receiveCall
-told-answer c input out =
+answer-sayable c input out =
     cond-cases Says (ltb (length out) 64) (λ _. refl)
-    (λ _. cond-cases Says (inRule c)
-    (λ _. cond-cases Says (takenBy c input .complete) (λ _. rw (some-bytes c (takenBy c input))) (λ _. refl))
-    (λ _. refl))
-
-pub numbers-say : (c : Controller) (input out : List ℕ) {refusal taken size : ℕ}
-    → let a = receiveCall c input out .answer in refusal ≡ refusalOf a → taken ≡ takenOf a → size ≡ sizeOf a → outcomeTold refusal taken size ≡ a
-numbers-say c input out e f g = rw (e, f, g) (told-answer c input out)
+    (λ _. cond-cases Says (inRule c) (λ _. cond-cases Says (takenBy c input .complete) (λ _. some-bytes c (takenBy c input)) (λ _. tt)) (λ _. refl))
+  where
+    Says : After → Type 0
+    Says x = Sayable (x .answer)
 
 -- settings that are stored exactly where the call answered are those that it leaves
 pub stored-settings : (c : Controller) (input out : List ℕ) {a : Outcome} {s : Settings} {stored : Bool}

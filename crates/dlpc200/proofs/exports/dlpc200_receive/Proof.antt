@@ -1,13 +1,9 @@
 -- `dlpc200_receive` meets its contract: it passes on the device and what is lent to `step`, stores the device of what that returns behind the reference, and returns its refusal (`steps`, of the packet layer's Lending).
-use Prim.Native.Nat.{ℕ}
 use mathlib.Core.Path.{_≡_, refl}
-use mathlib.Core.List.{List}
 use mir.Syntax.{w32}
 use denote.Struct.Laws.{tells, owed}
 use Rattle.packet.proofs.Lending.{Call, struct-held, number, stepping, steps}
-use Rattle.packet.specs.Answer.{refusalOf, takenOf, sizeOf}
-use Rattle.dlpc200.specs.Endpoint.{receiveCall}
-use Rattle.dlpc200.specs.declared.device.Device.{Device}
+use Rattle.dlpc200.specs.Endpoint.{receiveCall, Receives}
 use Rattle.dlpc200.proofs.device.Device as T
 use Rattle.dlpc200.proofs.device.Device.Laws as T′
 use Rattle.dlpc200.proofs.exports.Stepped as S
@@ -17,15 +13,6 @@ use Rattle.dlpc200.proofs.exports.step.Met as step-met
 use Rattle.dlpc200.proofs.exports.dlpc200_receive.Key as key
 use Rattle.dlpc200.proofs.exports.dlpc200_receive.Statement as stated
 use Rattle.dlpc200.proofs.exports.dlpc200_receive.Code as code
-
--- what both say: of the device before, the input and the output, and of what is there after
-abbrev Told : Device → List ℕ → List ℕ → Device → ℕ → List ℕ → ℕ → ℕ → Type 0
-Told d input out after refusal last taken size =
-    (after ≡ receiveCall d input out .device)
-    × (refusal ≡ refusalOf (receiveCall d input out .answer))
-    × (taken ≡ takenOf (receiveCall d input out .answer))
-    × (size ≡ sizeOf (receiveCall d input out .answer))
-    × (last ≡ receiveCall d input out .output)
 
 abbrev the-call : Call
 the-call =
@@ -41,8 +28,8 @@ the-call =
             spells = tells S.the-type S′.the-laws;
             are = owed S.the-type S′.the-laws;
           };
-      Said = λ d input out _ _ r last taken size. Told d input out (r .device) (r .refusal) last taken size;
-      Left = λ d input out _ _ after refusal last taken size. Told d input out after refusal last taken size;
+      Said = λ d input out _ _ r last taken size. Receives (receiveCall d input out) (r .refusal) taken size (r .device) last;
+      Left = λ d input out _ _ after refusal last taken size. Receives (receiveCall d input out) refusal taken size after last;
       follows = λ d input out _ _ r last taken size said. said;
     }
 

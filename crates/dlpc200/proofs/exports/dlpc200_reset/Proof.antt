@@ -18,8 +18,8 @@ the-call =
       T = struct-held T.the-type T′.the-laws T′.the-plain;
       S = struct-held S.the-type S′.the-laws S′.the-plain;
       Said = λ s d. d ≡ deviceWith s;
-      Left = λ s r d. (d ≡ deviceWith s) × (r ≡ 0);
-      follows = λ s d e. (e, refl);
+      Left = λ s r d. (r ≡ 0) × (d ≡ deviceWith s);
+      follows = λ s d e. (refl, e);
     }
 
 function-is : code.function ≡ making the-call with.name

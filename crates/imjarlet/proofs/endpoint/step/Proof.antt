@@ -1,11 +1,11 @@
 -- `step` meets its contract: that of `command::serve`, its answer as numbers.
-use mathlib.Core.Path.{ap, _∙_}
+use mathlib.Core.Path.{ap}
 use denote.Ref.{now}
 use borrow.Author.Needs.{needs}
-use Rattle.packet.specs.Answer.{refusalOf, takenOf, sizeOf}
-use Rattle.command.specs.Endpoint.{After}
+use Rattle.packet.proofs.Answering.{numbers-say}
+use Rattle.command.specs.Endpoint.{After, receiveCall}
 use Rattle.command.specs.Lent.{controllerOf}
-use Rattle.imjarlet.proofs.endpoint.Laws.{numbers-say, stored-settings}
+use Rattle.imjarlet.proofs.endpoint.Laws.{answer-sayable, stored-settings}
 use Rattle.imjarlet.proofs.endpoint.step.Statement.{statement}
 use Rattle.imjarlet.proofs.endpoint.step.Tie as tie
 
@@ -17,15 +17,14 @@ returns c =
     let n = c .told .ensures in
     let u = s .before .before .before .before .before .before .args in
     let came = controllerOf (u .settings) (u .registers) (now (u .buffer)) (now (u .hold)) in
+    let told = rw a at n in
     record {
-      refused = n .0 ∙ ap refusalOf a;
-      count = n .1 ∙ ap takenOf a;
-      response = n .2 ∙ ap sizeOf a;
+      told = told;
+      says = numbers-say (receiveCall came (now (u .input)) (now (u .out)) .answer) (answer-sayable came (now (u .input)) (now (u .out))) told;
       leaves =
           rw (stored-settings came (now (u .input)) (now (u .out)) a (ap (λ (x : After). x .controller .settings) e) (s .serve .ensures .1))
           (ap (λ (x : After). x .controller) e);
       written = ap (λ (x : After). x .output) e;
-      says = numbers-say came (now (u .input)) (now (u .out)) (n .0 ∙ ap refusalOf a) (n .1 ∙ ap takenOf a) (n .2 ∙ ap sizeOf a);
     }
 
 pub step-spec : {M : Type 1} → statement M

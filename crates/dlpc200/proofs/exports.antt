@@ -1,0 +1,2 @@
+-- The laws of exports.
+pub mod Laws

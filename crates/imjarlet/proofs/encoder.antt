@@ -1,0 +1,2 @@
+-- The laws of encoder.
+pub mod Laws
