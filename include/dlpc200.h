@@ -90,7 +90,7 @@ enum {                                    /* Data[1] */
 
 /* What a receive call refuses, tested in this order. It then takes nothing and leaves output and device as they were. */
 enum {
-    DLPC200_ACCEPTED = 0,     /* no refusal */
+    DLPC200_NO_REFUSAL = 0,   /* also where the answer tells that the packet failed */
     DLPC200_SHORT_OUTPUT = 1, /* the output is shorter than 64 bytes */
     DLPC200_OUT_OF_RULE = 3   /* a state out of its range, or a half-received packet that already has all its bytes */
 };

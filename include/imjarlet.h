@@ -74,7 +74,7 @@ enum {
 
 /* What a call refuses. It then takes nothing and leaves output and controller as they were. */
 enum {
-    IMJARLET_ACCEPTED = 0,      /* no refusal */
+    IMJARLET_NO_REFUSAL = 0,    /* also where an error packet is the answer; of a report: it is accepted */
     IMJARLET_SHORT_OUTPUT = 1,  /* the output is shorter than 64 bytes, or 128 for the standard list */
     IMJARLET_NOT_ALLOWED = 2,   /* the encoder: a value is not allowed, or the command is not in the table */
     IMJARLET_OUT_OF_RULE = 3    /* a setting that is not allowed; run 1 outside display mode 4; over 1,024
@@ -241,7 +241,7 @@ uint32_t imjarlet_standard_list(const imjarlet_settings *settings,
 
 /*
  * Whether the settings that a tuning report ships are those that its best trial ended with. Refusals
- * 10 to 20.
+ * 10 to 20; 0 is that the report is accepted.
  */
 uint32_t imjarlet_check_report(const uint8_t *report, imjarlet_size report_length, imjarlet_verdict *verdict);
 

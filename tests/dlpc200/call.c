@@ -10,9 +10,9 @@ int main(void) {
     dlpc200_device device;
     dlpc200_size taken, size, at = 0, length = 0;
     uint8_t out[64], got[64];
-    if (dlpc200_reset(&device, &states) != DLPC200_ACCEPTED) return 1;
+    if (dlpc200_reset(&device, &states) != DLPC200_NO_REFUSAL) return 1;
     while (at < sizeof stream) {
-        if (dlpc200_receive(&device, stream + at, sizeof stream - at, out, sizeof out, &taken, &size) != DLPC200_ACCEPTED) return 2;
+        if (dlpc200_receive(&device, stream + at, sizeof stream - at, out, sizeof out, &taken, &size) != DLPC200_NO_REFUSAL) return 2;
         if (size == 0 || dlpc200_faults(out[DLPC200_AT_DATA0], out[DLPC200_AT_DATA1]) != 0) return 3;
         memcpy(got + length, out, size);
         length += size;

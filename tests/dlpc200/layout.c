@@ -58,7 +58,7 @@ static int is_fresh(const dlpc200_device *d, dlpc200_states states) {
 static void reset(dlpc200_states states) {
     memset(&box, STRIP, sizeof box);
     memset(&box.d, BEFORE, sizeof box.d);
-    check(dlpc200_reset(&box.d, &states) == DLPC200_ACCEPTED && is_fresh(&box.d, states),
+    check(dlpc200_reset(&box.d, &states) == DLPC200_NO_REFUSAL && is_fresh(&box.d, states),
           "a device that is reset is its fields and nothing else");
 }
 
@@ -77,7 +77,7 @@ static int receives(const uint8_t *input, dlpc200_size n, dlpc200_size room, uin
 }
 
 static int waits(const uint8_t *input, dlpc200_size n) {
-    return receives(input, n, sizeof out, DLPC200_ACCEPTED, n, 0);
+    return receives(input, n, sizeof out, DLPC200_NO_REFUSAL, n, 0);
 }
 
 static int refuses(dlpc200_size room, uint32_t refusal) {
@@ -109,7 +109,7 @@ static int draws(size_t n, uint8_t kind, uint8_t data0, uint8_t data1) {
     response[DLPC200_AT_DATA0] = data0;
     response[DLPC200_AT_DATA1] = data1;
     response[8] = (uint8_t)(2 + data0 + data1);
-    return receives(packet, n, sizeof out, DLPC200_ACCEPTED, n, 9) && memcmp(out, response, 9) == 0;
+    return receives(packet, n, sizeof out, DLPC200_NO_REFUSAL, n, 9) && memcmp(out, response, 9) == 0;
 }
 
 static int reads(unsigned id, uint8_t state) {
@@ -117,7 +117,7 @@ static int reads(unsigned id, uint8_t state) {
     size_t n = make(DLPC200_READ, DLPC200_EXTENDED, DLPC200_ONLY, id, 2);
     response[8] = state;
     response[9] = (uint8_t)(3 + state);
-    return receives(packet, n, sizeof out, DLPC200_ACCEPTED, n, 10) && memcmp(out, response, 10) == 0;
+    return receives(packet, n, sizeof out, DLPC200_NO_REFUSAL, n, 10) && memcmp(out, response, 10) == 0;
 }
 
 /* Each state is read from its field, and out of its range it draws refusal 3. */
@@ -188,7 +188,7 @@ static void current_packet(void) {
               memcmp(box.d.hold, packet + 6, DLPC200_HOLD) == 0 &&
               box.d.sum == (uint8_t)(6 + DLPC200_PARK_DMD + 0x80 + 0x90 + 0xA0),
           "eleven bytes have come in, four of them held");
-    check(receives(packet + 11, n - 11, sizeof out, DLPC200_ACCEPTED, n - 11, 9) && box.d.received == 0 && box.d.sum == 0 &&
+    check(receives(packet + 11, n - 11, sizeof out, DLPC200_NO_REFUSAL, n - 11, 9) && box.d.received == 0 && box.d.sum == 0 &&
               memcmp(box.d.hold, packet + 6, DLPC200_HOLD) == 0,
           "the rest completes the packet");
 
@@ -199,7 +199,7 @@ static void current_packet(void) {
     memcpy(box.d.hold, packet + 6, 2);
     box.d.received = (uint32_t)(n - 1);
     box.d.sum = packet[n - 1];
-    check(receives(packet + n - 1, 1, sizeof out, DLPC200_ACCEPTED, 1, 9) && out[DLPC200_AT_DATA0] == 0 &&
+    check(receives(packet + n - 1, 1, sizeof out, DLPC200_NO_REFUSAL, 1, 9) && out[DLPC200_AT_DATA0] == 0 &&
               box.d.states.park == 1,
           "a packet lies where the header file says");
 
@@ -214,14 +214,14 @@ static void current_packet(void) {
     reset(told);
     n = make(DLPC200_WRITE, DLPC200_EXTENDED, DLPC200_ONLY, DLPC200_PARK_DMD, 65535);
     check(waits(packet, n - 1) && box.d.received == 65541, "65,541 bytes have come in");
-    check(receives(packet + n - 1, 1, sizeof out, DLPC200_ACCEPTED, 1, 9), "the longest packet is complete");
+    check(receives(packet + n - 1, 1, sizeof out, DLPC200_NO_REFUSAL, 1, 9), "the longest packet is complete");
 }
 
 static void lengths(void) {
     reset(told);
     make(DLPC200_READ, DLPC200_EXTENDED, DLPC200_ONLY, DLPC200_GET_EEPROM_FAULT, 2);
     check(refuses(DLPC200_OUTPUT_LEAST - 1, DLPC200_SHORT_OUTPUT), "an output of 63 bytes");
-    check(receives(NULL, 0, sizeof out, DLPC200_ACCEPTED, 0, 0), "no input");
+    check(receives(NULL, 0, sizeof out, DLPC200_NO_REFUSAL, 0, 0), "no input");
     box.d.states.park = 2;
     check(refuses(DLPC200_OUTPUT_LEAST - 1, DLPC200_SHORT_OUTPUT), "1 before 3");
     memset(&numbers, BEFORE, sizeof numbers);

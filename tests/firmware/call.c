@@ -139,7 +139,7 @@ static void saw_receipt(uint32_t refusal, uint64_t cut, uint64_t size, const uin
     seen[OF_ONE_BYTE] += cut == 1;
     if (refusal == IMJARLET_SHORT_OUTPUT) seen[SHORT]++;
     else if (refusal == IMJARLET_OUT_OF_RULE) seen[RULE]++;
-    else if (refusal != IMJARLET_ACCEPTED) leave(3, "receive: no such refusal: ", refusal);
+    else if (refusal != IMJARLET_NO_REFUSAL) leave(3, "receive: no such refusal: ", refusal);
     else if (size == 0) seen[WAITING]++;
     else {
         seen[PACKETS]++;
@@ -151,7 +151,7 @@ static void saw_receipt(uint32_t refusal, uint64_t cut, uint64_t size, const uin
 }
 
 static void saw_emitted(int first, uint32_t refusal, uint32_t other) {
-    if (refusal == IMJARLET_ACCEPTED) seen[first]++;
+    if (refusal == IMJARLET_NO_REFUSAL) seen[first]++;
     else if (refusal == IMJARLET_SHORT_OUTPUT) seen[first + 1]++;
     else if (refusal == other) seen[first + 2]++;
     else leave(3, "encoder or standard list: no such refusal: ", refusal);
@@ -159,7 +159,7 @@ static void saw_emitted(int first, uint32_t refusal, uint32_t other) {
 
 static void saw_verdict(uint32_t refusal) {
     seen[REPORTS]++;
-    if (refusal == IMJARLET_ACCEPTED) seen[ACCEPTED]++;
+    if (refusal == IMJARLET_NO_REFUSAL) seen[ACCEPTED]++;
     else if (refusal >= 10 && refusal <= 20) seen[REFUSED_10 + refusal - 10]++;
     else leave(3, "report: no such refusal: ", refusal);
 }
@@ -220,7 +220,7 @@ static void fresh(void) {
     seen[RESETS]++;
     put(&refusal, sizeof refusal);
     put(&head, sizeof head);
-    if (refusal != IMJARLET_ACCEPTED) leave(3, "reset: no such refusal: ", refusal);
+    if (refusal != IMJARLET_NO_REFUSAL) leave(3, "reset: no such refusal: ", refusal);
 }
 
 /* Whether the controller was not refused; *at grows by the bytes taken. */

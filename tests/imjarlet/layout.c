@@ -151,11 +151,11 @@ static void reset(void) {
 
 /* An answer without a refusal; a response has at least 7 bytes. */
 static int waits(answer a, imjarlet_size taken) {
-    return a.refusal == IMJARLET_ACCEPTED && a.taken == taken && a.size == 0;
+    return a.refusal == IMJARLET_NO_REFUSAL && a.taken == taken && a.size == 0;
 }
 
 static int answers(answer a, imjarlet_size taken, imjarlet_size n) {
-    return a.refusal == IMJARLET_ACCEPTED && a.taken == taken && a.size == n;
+    return a.refusal == IMJARLET_NO_REFUSAL && a.taken == taken && a.size == n;
 }
 
 static int refuses(answer a, uint32_t refusal) {
@@ -284,7 +284,7 @@ static void every_setting(void) {
         check(same_settings(&box.c.settings, &expected), "a write stores its values in its own fields alone");
         memset(out, 0xA5, sizeof out);
         a = encode(c1, c2, &expected, out, sizeof out);
-        check(emits(a, IMJARLET_ACCEPTED, 7 + n) && memcmp(out, packet, 7 + n) == 0 && out[7 + n] == 0xA5,
+        check(emits(a, IMJARLET_NO_REFUSAL, 7 + n) && memcmp(out, packet, 7 + n) == 0 && out[7 + n] == 0xA5,
               "the encoder finds the values in the fields");
         memcpy(joined + at, packet, 7 + n);
         at += 7 + n;
@@ -298,7 +298,7 @@ static void every_setting(void) {
     }
     memset(list, 0xA5, sizeof list);
     a = standard_list(&expected, list, sizeof list);
-    check(emits(a, IMJARLET_ACCEPTED, IMJARLET_LIST_LENGTH) && at == IMJARLET_LIST_LENGTH &&
+    check(emits(a, IMJARLET_NO_REFUSAL, IMJARLET_LIST_LENGTH) && at == IMJARLET_LIST_LENGTH &&
               memcmp(list, joined, at) == 0 && list[at] == 0xA5,
           "the standard list is the nine writes");
     reset();
@@ -369,7 +369,7 @@ static void out_of_rule(void) {
     check(emits(standard_list(&s, packet, sizeof packet), IMJARLET_OUT_OF_RULE, 0), "a list of settings out of rule");
     check(emits(encode(0x01, 0x01, &s, out, sizeof out), IMJARLET_NOT_ALLOWED, 0),
           "the encoder of a value that is not allowed");
-    check(emits(encode(0x01, 0x03, &s, out, sizeof out), IMJARLET_ACCEPTED, 8),
+    check(emits(encode(0x01, 0x03, &s, out, sizeof out), IMJARLET_NO_REFUSAL, 8),
           "the encoder looks at its own part alone");
     check(emits(encode(0x01, 0x02, &s, out, sizeof out), IMJARLET_NOT_ALLOWED, 0),
           "the encoder of a command that is not in the table");
@@ -492,10 +492,10 @@ static void codes_and_lengths(void) {
     check(refuses(receive(NULL, 0, NULL, 0), IMJARLET_SHORT_OUTPUT), "no output");
     check(emits(encode(1, 1, &s, out, IMJARLET_OUTPUT_LEAST - 1), IMJARLET_SHORT_OUTPUT, 0), "encode: 63 bytes");
     check(emits(encode(1, 2, &s, out, IMJARLET_OUTPUT_LEAST - 1), IMJARLET_SHORT_OUTPUT, 0), "encode: 1 before 2");
-    check(emits(encode(1, 1, &s, out, IMJARLET_OUTPUT_LEAST), IMJARLET_ACCEPTED, 8), "encode: 64 bytes");
+    check(emits(encode(1, 1, &s, out, IMJARLET_OUTPUT_LEAST), IMJARLET_NO_REFUSAL, 8), "encode: 64 bytes");
     check(emits(standard_list(&s, long_out, IMJARLET_LIST_OUTPUT_LEAST - 1), IMJARLET_SHORT_OUTPUT, 0),
           "list: 127 bytes");
-    check(emits(standard_list(&s, long_out, IMJARLET_LIST_OUTPUT_LEAST), IMJARLET_ACCEPTED, IMJARLET_LIST_LENGTH),
+    check(emits(standard_list(&s, long_out, IMJARLET_LIST_OUTPUT_LEAST), IMJARLET_NO_REFUSAL, IMJARLET_LIST_LENGTH),
           "list: 128 bytes");
     s.run = 1;
     check(emits(standard_list(&s, long_out, IMJARLET_LIST_OUTPUT_LEAST - 1), IMJARLET_SHORT_OUTPUT, 0),
@@ -547,7 +547,7 @@ static void reports(void) {
     size_t n;
     n = make_report(1, 2, 7, 1, red, 13);
     ends.current.red.counts = 300;
-    check(check_report(n) == IMJARLET_ACCEPTED && is_verdict(&box.v, 0, 1, 7, &ends), "a report that is accepted");
+    check(check_report(n) == IMJARLET_NO_REFUSAL && is_verdict(&box.v, 0, 1, 7, &ends), "a report that is accepted");
     report[n] = 0;
     check(refused(n + 1, IMJARLET_REPORT_BYTES_AFTER, n), "refusal 20");
     check(refused(n - 1, IMJARLET_REPORT_CUT_SHORT, 43), "refusal 11");
