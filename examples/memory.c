@@ -1,4 +1,9 @@
-/* The three functions that the library wants, for firmware that has no C library. */
+/*
+ * The three functions that the library wants, for firmware that has no C library. Compile this file with
+ * -ffreestanding -fno-builtin, and with GCC also with -fno-tree-loop-distribute-patterns: a compiler may
+ * turn a loop that copies or fills into a call of memcpy, memmove or memset, and each of these would then
+ * call itself.
+ */
 #include <stddef.h>
 
 void *memcpy(void *to, const void *from, size_t n) {
