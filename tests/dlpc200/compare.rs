@@ -5,7 +5,7 @@
 #[path = "../../include/dlpc200.rs"]
 mod dlpc200;
 mod model;
-use dlpc200::{Device, States, calls, faults};
+use dlpc200::{Device, States, calls, command, faults, status};
 use model::{Answer, Judged, Model};
 
 struct Random(u64);
@@ -215,6 +215,48 @@ fn worked(tally: &mut Tally) {
     }
 }
 
+// The status bytes of the answer to one packet, from a device that nothing has come to.
+fn status_of(cmd: [u8; 4], data: &[u8], checksum: u8) -> (u8, u8) {
+    let [low, high] = (data.len() as u16).to_le_bytes();
+    let mut packet = [&cmd[..], &[low, high], data].concat();
+    let sum = packet[4..].iter().fold(checksum, |sum, byte| sum.wrapping_add(*byte));
+    packet.push(sum);
+    let mut d = Device::new(States { park: 0, sequence: 1, eeprom: 0, flash: 7, lit: 1 });
+    let mut out = [0xEE; dlpc200::OUTPUT_LEAST];
+    assert!(matches!(d.receive(&packet, &mut out), dlpc200::Answer::Answered { taken, .. } if taken == packet.len()));
+    assert_eq!(out[0], if cmd[0] == dlpc200::READ { dlpc200::READ_RESP } else { dlpc200::WRITE_RESP });
+    (out[status::AT_DATA0], out[status::AT_DATA1])
+}
+
+// Each name of the Rust view is drawn from the library.
+fn named() {
+    use dlpc200::{DATA_MOST, EXTENDED, ONLY, READ, WRITE};
+    use status::*;
+    let failed = ERR_CMD_EXE_FAILED;
+    let writes = [command::PARK_DMD, command::UNPARK_DMD];
+    let reads = [
+        command::GET_DMD_SOFTWARE_PARK_STATE,
+        command::GET_SEQ_RUN_STATE,
+        command::GET_EEPROM_FAULT,
+        command::GET_INIT_FROM_PARALLEL_FLASH_FAIL,
+        command::GET_OVERALL_LED_LAMP_LIT_STATE,
+    ];
+    for id in 0..=u16::MAX {
+        let (write, read) = (writes.contains(&id), reads.contains(&id));
+        let of = |cmd1: u8| status_of([cmd1, EXTENDED, 0, ONLY], &id.to_le_bytes(), 0);
+        let told = |right: bool, known: bool| if right { 0 } else if known { failed | ERR_INVALID_CMD1 } else { failed };
+        assert_eq!((of(WRITE), of(READ)), ((told(write, read), 0), (told(read, write), 0)), "{id:04X}");
+    }
+    let park = command::PARK_DMD.to_le_bytes();
+    assert_eq!(status_of([WRITE, EXTENDED, 0, ONLY], &park, 1), (failed | ERR_CHK_SUM_ERROR, 0));
+    assert_eq!(status_of([WRITE, !EXTENDED, 0, ONLY], &park, 0), (failed | ERR_INVALID_CMD2, 0));
+    assert_eq!(status_of([WRITE, EXTENDED, 0, !ONLY], &park, 0), (failed | ERR_INVALID_CMD4, 0));
+    assert_eq!(status_of([WRITE, EXTENDED, 0, ONLY], &park[..1], 0), (failed, ERR_INSUF_CMD_DATA));
+    let unknown = [0xFF; DATA_MOST + 1];
+    assert_eq!(status_of([WRITE, EXTENDED, 0, ONLY], &unknown[1..], 0), (failed, 0));
+    assert_eq!(status_of([WRITE, EXTENDED, 0, ONLY], &unknown, 0), (failed, ERR_INSUF_CMD_DATA));
+}
+
 // Every pair of status bytes.
 fn counts() {
     for d0 in 0..=255u8 {
@@ -306,6 +348,7 @@ fn found(fault: u32, n: u64) -> usize {
 fn main() {
     let n: u64 = std::env::args().nth(1).map_or(20_000, |n| n.parse().expect("a number of rounds"));
     worked(&mut Tally::default());
+    named();
     counts();
     let mut tally = Tally::default();
     (1..=n).for_each(|seed| round(seed, &mut tally));
