@@ -4,7 +4,7 @@
  *
  *     call <CASES >ANSWERS          the answers, and on standard error how often each kind came up
  *     call spoil N <CASES >ANSWERS  the same, with one bit of the last byte of case N (from 0) changed
- *     call stack <CASES             on standard error the stack that the calls take, in bytes
+ *     call stack <CASES             on standard error the bytes of a controller, and of stack that calls take
  *
  * A case is its length (4 bytes, as every number here least significant first), its kind and what it
  * hands over. Its answer is all that the calls returned and filled, 16 bytes on both sides of the output
@@ -166,39 +166,85 @@ static void saw_verdict(uint32_t refusal) {
 
 /* ---- the stack, painted below a call and looked at after it */
 
-enum { PAINTED = 8192, PAINTER = 256 };
+/*
+ * What is counted of a call: from the stack pointer that it begins with down to the lowest word that it, or
+ * a memory function that it calls, has written, rounded up to the alignment that the ABI gives the stack
+ * pointer. So saved registers count, and the return address, which on x86-64 the call itself puts there.
+ * Arguments that are passed on the stack do not: they are above, in the caller's frame. What a frame has at
+ * its lowest end and never writes cannot be seen.
+ */
+enum { PAINTED = 8192 };
 enum { OF_RESET, OF_RECEIVE, OF_ENCODE, OF_LIST, OF_REPORT, CALLS };
 
 static uintptr_t deepest[CALLS];
 
-#if defined __arm__ || defined __aarch64__
-#define STACK_POINTER(p) __asm__ volatile("mov %0, sp" : "=r"(p))
+/*
+ * The stack pointer, and by BEGIN(call) a function measured_CALL that stores in `begun` the one that it
+ * begins with and goes on as CALL. Only there is it known where a call begins: a compiler may push arguments
+ * after it has been asked for the stack pointer.
+ */
+uintptr_t begun;
+
+#define LINES(call, type, lines) \
+    __asm__(".text\n.p2align 2\n.globl measured_" #call "\n" type "\nmeasured_" #call ":\n" lines);
+
+#if defined __thumb__
+enum { ALIGNED = 8, RETURN = 0 };
+#define STACK_POINTER(p) __asm__ volatile("mov %0, sp" : "=r"(p) : : "memory")
+#define BEGIN(call) LINES(call, ".thumb_func", "ldr r12, =begun\nstr sp, [r12]\nb.w " #call "\n.ltorg\n")
+#elif defined __arm__
+enum { ALIGNED = 8, RETURN = 0 };
+#define STACK_POINTER(p) __asm__ volatile("mov %0, sp" : "=r"(p) : : "memory")
+#define BEGIN(call) \
+    LINES(call, ".type measured_" #call ", %function", "ldr r12, =begun\nstr sp, [r12]\nb " #call "\n.ltorg\n")
+#elif defined __aarch64__
+enum { ALIGNED = 16, RETURN = 0 };
+#define STACK_POINTER(p) __asm__ volatile("mov %0, sp" : "=r"(p) : : "memory")
+#define BEGIN(call)                                     \
+    LINES(call, ".type measured_" #call ", %function", \
+          "adrp x16, begun\nmov x17, sp\nstr x17, [x16, :lo12:begun]\nb " #call "\n")
 #elif defined __riscv
-#define STACK_POINTER(p) __asm__ volatile("mv %0, sp" : "=r"(p))
+enum { ALIGNED = 16, RETURN = 0 };
+#define STACK_POINTER(p) __asm__ volatile("mv %0, sp" : "=r"(p) : : "memory")
+#define BEGIN(call) LINES(call, ".type measured_" #call ", @function", "la t0, begun\nsw sp, 0(t0)\ntail " #call "\n")
 #else
-#define STACK_POINTER(p) __asm__ volatile("mov %%rsp, %0" : "=r"(p))
+enum { ALIGNED = 16, RETURN = 8 };
+#define STACK_POINTER(p) __asm__ volatile("mov %%rsp, %0" : "=r"(p) : : "memory")
+#define BEGIN(call) LINES(call, ".type measured_" #call ", @function", "movq %rsp, begun(%rip)\njmp " #call "\n")
 #endif
 
-__attribute__((noinline)) static void paint(uint8_t pattern) {
-    uint8_t area[PAINTED];
-    memset(area, pattern, sizeof area);
-    __asm__ volatile("" : : "r"(area) : "memory");
-}
+#define MEASURED(call)                         \
+    extern __typeof__(call) measured_##call; \
+    BEGIN(call)
 
-/* BEFORE makes ready for one more CALL. Two patterns: what the call leaves there may be one of them. */
-#define MEASURE(which, before, call)                                                   \
-    if (painting) {                                                                    \
-        int pattern;                                                                   \
-        for (pattern = 0x5A; pattern <= 0xC3; pattern += 0xC3 - 0x5A) {                \
-            uintptr_t top, at;                                                         \
-            before;                                                                    \
-            paint((uint8_t)pattern);                                                   \
-            STACK_POINTER(top);                                                        \
-            call;                                                                      \
-            at = top - PAINTED + PAINTER; /* above it is the painter's own frame */    \
-            while (at < top && *(const volatile uint8_t *)at == pattern) at++;         \
-            if (top - at > deepest[which]) deepest[which] = top - at;                  \
-        }                                                                              \
+MEASURED(imjarlet_reset)
+MEASURED(imjarlet_receive)
+MEASURED(imjarlet_encode)
+MEASURED(imjarlet_standard_list)
+MEASURED(imjarlet_check_report)
+
+/* What is painted at a place: by the place, so that no register and no copy of other words has it. */
+#define PAINT(at, coat) (((uint32_t)(at) + (coat)) * 2654435761u)
+
+/*
+ * BEFORE makes ready for one more CALL. Two coats: what the call leaves in a word may be the paint of one.
+ * Nothing is called for the paint and the look, since that would write there too.
+ */
+#define MEASURE(which, before, call)                                                               \
+    if (painting) {                                                                                \
+        uint32_t coat;                                                                             \
+        for (coat = 1; coat <= 2; coat++) {                                                        \
+            uintptr_t end, at;                                                                     \
+            before;                                                                                \
+            STACK_POINTER(end);                                                                    \
+            for (at = end - PAINTED; at < end; at += 4) *(volatile uint32_t *)at = PAINT(at, coat); \
+            measured_##call;                                                                       \
+            begun += RETURN;                                                                       \
+            at = end - PAINTED;                                                                    \
+            while (at < begun && *(const volatile uint32_t *)at == PAINT(at, coat)) at += 4;       \
+            at = (begun - at + ALIGNED - 1) / ALIGNED * ALIGNED;                                   \
+            if (at > deepest[which]) deepest[which] = at;                                          \
+        }                                                                                          \
     }
 
 /* ---- the calls */
@@ -337,10 +383,11 @@ static int counted(void) {
 static int measured(void) {
     static const char *const calls[CALLS] = {"reset", "receive", "encode", "standard_list", "check_report"};
     int call;
+    say_number("controller ", sizeof head, "\n");
     for (call = 0; call < CALLS; call++) {
         say(calls[call]);
         say_number(" ", (uint32_t)deepest[call], "\n");
-        if (deepest[call] >= PAINTED - PAINTER) leave(3, "deeper than was painted: ", PAINTED - PAINTER);
+        if (deepest[call] + ALIGNED > PAINTED) leave(3, "deeper than was painted: ", PAINTED);
     }
     return 0;
 }
