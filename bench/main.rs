@@ -110,9 +110,11 @@ fn payload(length: usize) -> Vec<u8> {
     (0..length).map(|i| (i * 31 + 7) as u8).collect()
 }
 
-/// A write of every command and a read of all but one, each of them acknowledged or answered.
-fn mix() -> Vec<Vec<u8>> {
+/// A write of every command and a read of all but one, each of them acknowledged or answered. The video
+/// input is this one: what a test of the settings takes is not the same for each listed pair.
+fn mix(input: &[u8]) -> Vec<Vec<u8>> {
     let mut settings = model::Settings::FACTORY;
+    settings.set(model::Command::Input, input);
     settings.set(model::Command::Mode, &[4]);
     settings.set(model::Command::Run, &[1]);
     let mut packets = Vec::new();
@@ -124,6 +126,10 @@ fn mix() -> Vec<Vec<u8>> {
     }
     packets
 }
+
+/// 608 x 684, the factory's pair and the last of the list, and 240 x 320, its first.
+const LAST_PAIR: [u8; 12] = [0x60, 2, 0xAC, 2, 0, 0, 0, 0, 0x60, 2, 0xAC, 2];
+const FIRST_PAIR: [u8; 12] = [240, 0, 0x40, 1, 0, 0, 0, 0, 240, 0, 0x40, 1];
 
 /// A report of these trials' packets that is accepted: the last trial wins, so all are played.
 fn report(trials: &[Vec<u8>]) -> Vec<u8> {
@@ -148,7 +154,7 @@ fn report(trials: &[Vec<u8>]) -> Vec<u8> {
 
 /// 60,000 bytes: twenty trials of small packets, the last one of a trial cut off.
 fn report_of_small() -> Vec<u8> {
-    let cycle: Vec<u8> = mix().concat();
+    let cycle: Vec<u8> = mix(&LAST_PAIR).concat();
     let room = 60_000 - 8 - 6 - 115 - 20 * 8;
     let trial = |i| {
         cycle
@@ -194,9 +200,10 @@ fn workloads() -> Vec<Workload> {
     let whole = usize::MAX;
     let largest = packet(2, [1, 3], 0, &payload(65_535));
     let held = packet(2, [1, 3], 0, &payload(1024));
-    let cycle = mix();
+    let cycle = mix(&LAST_PAIR);
     let packets = cycle.len() as f64;
     let cycle = cycle.concat();
+    let first = mix(&FIRST_PAIR).concat();
     let small = report_of_small();
     let large = report_of_large();
     let bytes = |input: &[u8]| input.len() as f64 / 1e6;
@@ -253,6 +260,24 @@ fn workloads() -> Vec<Workload> {
             Receive { each: 1 },
             &cycle,
             cycle.len() as f64 / 1e6,
+            "M calls/s",
+            true,
+        ),
+        work(
+            "first",
+            "small writes and reads, video input 240 x 320",
+            Receive { each: whole },
+            &first,
+            packets / 1e6,
+            "M packets/s",
+            true,
+        ),
+        work(
+            "one-first",
+            "the same in one-byte calls, video input 240 x 320",
+            Receive { each: 1 },
+            &first,
+            first.len() as f64 / 1e6,
             "M calls/s",
             true,
         ),

@@ -1,6 +1,6 @@
 /*
- * The DLPC200 on its SPI port, for C: its extended packets (section 6 of source document 000) for the
- * commands 0005, 0006, 0015, 0016, 0017, 0029 and 002A.
+ * The DLPC200 on its SPI port, for C: the extended packets (section 6 of its SPI slave interface
+ * specification) of the commands 0005, 0006, 0015, 0016, 0017, 0029 and 002A.
  *
  * Link with target/staticlib/libdlpc200.a on the machine itself, which `rt staticlib dlpc200` writes,
  * or for firmware with target/firmware/TARGET/libdlpc200.a, which `scripts/firmware TARGET dlpc200`
@@ -78,7 +78,7 @@ enum {
 
 enum {                                    /* Data[0] */
     DLPC200_ERR_CHK_SUM_ERROR = 0x01,     /* bit 0: the checksum is wrong */
-    DLPC200_ERR_INVALID_CMD1 = 0x02,      /* bit 1: CMD1 is neither 02 nor 04, or the other one of the command */
+    DLPC200_ERR_INVALID_CMD1 = 0x02,      /* bit 1: CMD1 is neither 02 nor 04, or not the one of its command */
     DLPC200_ERR_INVALID_CMD2 = 0x04,      /* bit 2: CMD2 is not AA */
     DLPC200_ERR_INVALID_CMD4 = 0x10,      /* bit 4: CMD4 is not 00 */
     DLPC200_ERR_CMD_EXE_FAILED = 0x40     /* bit 6: the packet failed */

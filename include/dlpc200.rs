@@ -51,7 +51,7 @@ pub mod status {
 
     /// Data[0]: the checksum is wrong.
     pub const ERR_CHK_SUM_ERROR: u8 = 0x01;
-    /// Data[0]: CMD1 is neither 02 nor 04, or the other one of the command.
+    /// Data[0]: CMD1 is neither 02 nor 04, or not the one of its command.
     pub const ERR_INVALID_CMD1: u8 = 0x02;
     /// Data[0]: CMD2 is not AA.
     pub const ERR_INVALID_CMD2: u8 = 0x04;

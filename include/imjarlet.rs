@@ -150,6 +150,22 @@ pub struct Controller {
     pub hold: [u8; HOLD],
 }
 
+// As include/imjarlet.h has it, on every target that this is compiled for; no type has padding.
+const _: () = {
+    use core::mem::{offset_of, size_of};
+    assert!(size_of::<LedCurrent>() == 6 && size_of::<StaticColour>() == 4);
+    assert!(size_of::<DisplaySetting>() == 4 && size_of::<VideoInput>() == 12);
+    assert!(size_of::<VideoMode>() == 4 && size_of::<PatternSequence>() == 20);
+    assert!(offset_of!(Settings, current) == 2 && offset_of!(Settings, colour) == 8);
+    assert!(offset_of!(Settings, setting) == 12 && offset_of!(Settings, input) == 16);
+    assert!(offset_of!(Settings, video) == 28 && offset_of!(Settings, sequence) == 32);
+    assert!(offset_of!(Settings, run) == 52 && size_of::<Settings>() == 56);
+    assert!(offset_of!(Registers, header) == 9 && offset_of!(Registers, sum) == 15);
+    assert!(offset_of!(Controller, registers) == 56 && offset_of!(Controller, buffer) == 72);
+    assert!(offset_of!(Controller, hold) == 1096 && size_of::<Controller>() == 2120);
+    assert!(offset_of!(raw::Verdict, settings) == 24 && size_of::<raw::Verdict>() == 80);
+};
+
 /// What a call refuses. It then takes nothing and leaves output and controller as they were.
 #[derive(Clone, Copy, PartialEq, Eq, Debug)]
 pub enum Refusal {

@@ -32,10 +32,11 @@ def first_error(log):
 
 
 def misfit(log):
-    """The proof no longer fits the code, so that the refusal says nothing of a promise."""
+    """The proof no longer fits the code, so that the refusal says nothing of a promise. `function-is` compares
+    a function with the walk of its code by hand."""
     first = first_error(log)
     message = log[log.find(first):].split(": error", 2)
-    return re.search(r"has no `Need-|has no field", ": error".join(message[:2])) is not None
+    return re.search(r"has no `Need-|has no field|`function-is`", ": error".join(message[:2])) is not None
 
 
 class Crate:

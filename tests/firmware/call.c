@@ -320,6 +320,23 @@ static void stream(const uint8_t *p, const uint8_t *end) {
     if (reset) fresh();
 }
 
+/* The encoder again, with other bits above the command's bytes, which a caller may leave there: the same answer. */
+extern uint32_t encode_in_words(uint32_t cmd1, uint32_t cmd2, const imjarlet_settings *settings, uint8_t *out,
+                                imjarlet_size out_length, imjarlet_size *size) __asm__("imjarlet_encode");
+
+static void encode_again(uint8_t cmd1, uint8_t cmd2, const imjarlet_settings *settings, size_t length, uint8_t fill,
+                         uint32_t refusal, imjarlet_size size) {
+    const uint32_t above = 0xA5C3E100;
+    static uint8_t wanted[sizeof area];
+    imjarlet_size again;
+    size_t i;
+    memcpy(wanted, area, sizeof area);
+    if (encode_in_words(above | cmd1, above | cmd2, settings, lend(fill), length, &again) != refusal || again != size)
+        leave(3, "encode: not by the command's bytes alone: ", cmd1);
+    for (i = 0; i < sizeof area; i++)
+        if (area[i] != wanted[i]) leave(3, "encode: other bytes by what is above the command's: ", i);
+}
+
 /* The output's length, and for the encoder the command; then the settings. */
 static void emit(uint8_t kind, const uint8_t *p, const uint8_t *end) {
     int encode = kind == 'E';
@@ -344,6 +361,7 @@ static void emit(uint8_t kind, const uint8_t *p, const uint8_t *end) {
     put(&size, sizeof size);
     put(out - BESIDE, BESIDE + length + BESIDE);
     note(&settings, sizeof settings);
+    if (encode) encode_again(cmd1, cmd2, &settings, length, (uint8_t)(seen[ENCODES] + seen[LISTS]), refusal, size);
     seen[encode ? ENCODES : LISTS]++;
     if (encode) saw_emitted(ENCODED, refusal, IMJARLET_NOT_ALLOWED);
     else saw_emitted(LISTED, refusal, IMJARLET_OUT_OF_RULE);

@@ -32,9 +32,9 @@ refusalOf (Refuses n) = n
 refusalOf (Writes n) = 0
 
 -- and the length written, 0 with a refusal
-abbrev pub sizeOf : Outcome → ℕ
-sizeOf (Refuses n) = 0
-sizeOf (Writes n) = n
+abbrev pub lengthOf : Outcome → ℕ
+lengthOf (Refuses n) = 0
+lengthOf (Writes n) = n
 
 -- what these two numbers say
 abbrev pub outcomeTold : ℕ → ℕ → Outcome

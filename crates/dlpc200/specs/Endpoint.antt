@@ -1,11 +1,10 @@
 -- The receive call: when it refuses, and what it answers and leaves.
 use Prim.Native.Nat.{ℕ}
-use mathlib.Core.Path.{_≡_}
 use mathlib.Core.Bool.{cond}
 use mathlib.Core.List.{List}
 use lib.Dec.{ltb}
 use lib.ListN.{length}
-use Rattle.packet.specs.Answer.{Outcome, Refuses, Waits, Answers, outcomeTold, Told}
+use Rattle.packet.specs.Answer.{Outcome, Refuses, Waits, Answers, Performed}
 use Rattle.packet.specs.Packet.{payloadLength}
 use Rattle.packet.specs.Writer.{written}
 use Rattle.packet.specs.Receiver.{Received}
@@ -69,10 +68,7 @@ unfoldable pub receiveCall : Device → List ℕ → List ℕ → After
 receiveCall d input out =
     cond (ltb (length out) 64) (refused 1 d out) (cond (inRule d) (ended (d .states) (receiving d input) out) (refused 3 d out))
 
--- A receive call for C and Rust that does as `after` says: the refusal, the bytes taken, the response's length (0: "waiting"), the device and the output afterwards.
-pub record Receives (after : After) (refusal taken size : ℕ) (device : Device) (output : List ℕ) : Type 0 where
-  pub told : Told (after .answer) refusal taken size
-  -- the three numbers say the answer
-  pub says : outcomeTold refusal taken size ≡ after .answer
-  pub leaves : device ≡ after .device
-  pub written : output ≡ after .output
+-- A receive call for C and Rust that does as `after` says: the refusal, the bytes taken, the response's length, the device and the output afterwards.
+abbrev pub Receives : After → ℕ → ℕ → ℕ → Device → List ℕ → Type 0
+Receives after refusal taken size device output =
+    Performed (after .answer) (after .device) (after .output) refusal taken size device output

@@ -6,7 +6,7 @@ pub(crate) const AFTER_CMD4: usize = 4;
 // The data of a packet: its ID, Data[0] and Data[1], and nothing else for the commands here.
 pub(crate) const ID_SIZE: usize = 2;
 
-// How many data bytes are held: the ID, and two where a command's first parameter would stand.
+// How many data bytes are held: the ID, and two more, so that a device that is lent has no holes.
 pub(crate) const HOLD: usize = 4;
 
 pub(crate) const DATA_LIMIT: usize = 504;

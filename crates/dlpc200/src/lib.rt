@@ -1,7 +1,7 @@
 // The DLPC200 on its SPI port (request 1): the extended packets of section 6 of source document
 // 000, for the commands 0005, 0006, 0015, 0016, 0017, 0029 and 002A.
 //
-//   header     the values of CMD1, CMD2 and CMD4
+//   header     the layout of a packet, and the values of CMD1, CMD2 and CMD4
 //   table      the commands, their IDs and their CMD1
 //   states     the states that the commands read
 //   status     the faults of a packet, and the two status bytes of its response

@@ -1,2 +1,2 @@
 -- The definitions of imjarlet, in the order in which to read them.
-pub mod Boundary
+pub mod Exports

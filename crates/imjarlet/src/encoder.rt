@@ -6,12 +6,12 @@ use command::Settings;
 ghost use mathlib.Core.Bool.{cond};
 ghost use mathlib.Core.Path.{_≡_};
 ghost use lib.Dec.{ltb};
-ghost use Rattle.command.specs.Encoder.{Refuses, outcomeOf, refusalOf, sizeOf, listCall};
-ghost use Rattle.imjarlet.specs.Boundary.{Emits, writeCall};
+ghost use Rattle.command.specs.Encoder.{Refuses, outcomeOf, refusalOf, lengthOf, listCall};
+ghost use Rattle.imjarlet.specs.Exports.{Emits, writeCall};
 
 // An answer as numbers: the refusal's number or 0, and the length written, 0 with a refusal.
 fn told(e: Encoded, size: &mut u64) -> u32
-    ensures { λ r. ⌜ (r ≡ refusalOf (outcomeOf e)) × (now (size .exit) ≡ sizeOf (outcomeOf e)) ⌝ }
+    ensures { λ r. ⌜ (r ≡ refusalOf (outcomeOf e)) × (now (size .exit) ≡ lengthOf (outcomeOf e)) ⌝ }
 {
     *size = 0;
     match e {

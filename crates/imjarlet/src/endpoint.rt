@@ -8,7 +8,7 @@ ghost use mathlib.Core.Bool.{cond};
 ghost use Rattle.command.specs.Controller.{fresh};
 ghost use Rattle.command.specs.Endpoint.{receiveCall};
 ghost use Rattle.command.specs.Lent.{controllerOf};
-ghost use Rattle.imjarlet.specs.Boundary.{Receives};
+ghost use Rattle.imjarlet.specs.Exports.{Receives};
 
 // Puts a fresh controller where the caller has one, whatever stood there.
 #[no_mangle]

@@ -4,7 +4,7 @@ use report::Checked;
 use report::Outcome;
 ghost use mathlib.Core.Path.{_≡_};
 ghost use Rattle.report.specs.Verdict.{verdictIn};
-ghost use Rattle.imjarlet.specs.Boundary.{verdictOf, refusalIn, Judges};
+ghost use Rattle.imjarlet.specs.Exports.{verdictOf, refusalIn, Judges};
 
 #[repr(C)]
 pub struct Verdict {

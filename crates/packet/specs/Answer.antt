@@ -42,10 +42,10 @@ refusalOf (Waits n) = 0
 refusalOf (Answers n m) = 0
 
 -- the response's length, 0 where there is none
-abbrev pub sizeOf : Outcome → ℕ
-sizeOf (Refuses n) = 0
-sizeOf (Waits n) = 0
-sizeOf (Answers n m) = m
+abbrev pub lengthOf : Outcome → ℕ
+lengthOf (Refuses n) = 0
+lengthOf (Waits n) = 0
+lengthOf (Answers n m) = m
 
 -- what three such numbers say: a refusal; "waiting" where there is no response; "answered"
 abbrev pub outcomeTold : ℕ → ℕ → ℕ → Outcome
@@ -55,7 +55,15 @@ outcomeTold refusal taken size = cond (eqb refusal 0) (cond (eqb size 0) (Waits 
 pub record Told (o : Outcome) (refusal taken size : ℕ) : Type 0 where
   pub refused : refusal ≡ refusalOf o
   pub count : taken ≡ takenOf o
-  pub response : size ≡ sizeOf o
+  pub response : size ≡ lengthOf o
+
+-- A receive call told by numbers that answers so and leaves this head and this output: the refusal, the bytes taken, the response's length (0: "waiting"), the head and the output afterwards.
+pub record Performed {S : Type 0} (answer : Outcome) (left : S) (written : List ℕ) (refusal taken size : ℕ) (head : S) (output : List ℕ) : Type 0 where
+  pub told : Told answer refusal taken size
+  -- the three numbers say the answer
+  pub says : outcomeTold refusal taken size ≡ answer
+  pub leaves : head ≡ left
+  pub writes : output ≡ written
 
 -- How a call answers that is lent the output `out`; `Refused n` says that it answers refusal n. In the order of the table:
 pub record Answering (Refused : ℕ → Type 0) (out : List ℕ) (shortest second : ℕ) (Holds Untouched Fine : Type 0) : Type 0 where

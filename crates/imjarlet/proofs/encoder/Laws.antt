@@ -8,12 +8,12 @@ use lib.ListN.{length}
 use Rattle.packet.proofs.Cases.{cond-cases}
 use Rattle.command.specs.Rules.{allowed, settingsInRule}
 use Rattle.command.specs.Value.{commandIn, valuesIn}
-use Rattle.command.specs.Encoder.{refusalOf, sizeOf, outcomeTold, After, refused, encodeCall, listCall}
+use Rattle.command.specs.Encoder.{refusalOf, lengthOf, outcomeTold, After, refused, encodeCall, listCall}
 use Rattle.command.specs.declared.settings.Settings.{Settings}
 use Rattle.command.specs.declared.value.Value.{Value}
 
 abbrev Says : After → Type 0
-Says x = outcomeTold (refusalOf (x .answer)) (sizeOf (x .answer)) ≡ x .answer
+Says x = outcomeTold (refusalOf (x .answer)) (lengthOf (x .answer)) ≡ x .answer
 
 pub encode-says : (v : Value) (out : List ℕ) → Says (encodeCall v out)
 unfolding encodeCall

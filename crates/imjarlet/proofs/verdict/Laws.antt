@@ -8,7 +8,7 @@ use Rattle.packet.specs.Number.{Bytes}
 use Rattle.report.specs.Report.{Verdict, Accepted, Refused, verdict}
 use Rattle.report.specs.Refusals.{Fault, F11, F12, F13, F14, F15, F16, F17, F18, F19, F20, Refusal, Long, Later}
 use Rattle.report.proofs.Refusals.{refused-exactly}
-use Rattle.imjarlet.specs.Boundary.{verdictOf, refusalIn, toldBy}
+use Rattle.imjarlet.specs.Exports.{verdictOf, refusalIn, toldBy}
 
 fault-number : {r : List ℕ} (n p : ℕ) → Fault r n p → eqb n 0 ≡ false
 fault-number n p (F11 kind at left due short) = refl

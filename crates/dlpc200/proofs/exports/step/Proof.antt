@@ -17,7 +17,7 @@ returns c =
       told = told;
       says = numbers-say (receiveCall (a .device) (now (a .input)) (now (a .out)) .answer) (answer-sayable (a .device) (now (a .input)) (now (a .out))) told;
       leaves = e .1;
-      written = e .2;
+      writes = e .2;
     }
 
 pub step-spec : {M : Type 1} → statement M

@@ -2,7 +2,7 @@
 use mathlib.Core.Path.{_≡_, refl}
 use mir.Syntax.{w32}
 use Rattle.packet.proofs.Lending.{Choose, struct-held, number, choosing, chooses}
-use Rattle.imjarlet.specs.Boundary.{Emits, writeCall}
+use Rattle.imjarlet.specs.Exports.{Emits, writeCall}
 use Rattle.command.proofs.settings.Settings as S
 use Rattle.command.proofs.settings.Settings.Laws as S′
 use Rattle.imjarlet.proofs.encoder.encode.Symbol as encode

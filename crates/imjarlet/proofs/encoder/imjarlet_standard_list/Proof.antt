@@ -3,7 +3,7 @@ use mathlib.Core.Path.{_≡_, refl}
 use mir.Syntax.{w32}
 use Rattle.packet.proofs.Lending.{Read, struct-held, number, reading, reads}
 use Rattle.command.specs.Encoder.{listCall}
-use Rattle.imjarlet.specs.Boundary.{Emits}
+use Rattle.imjarlet.specs.Exports.{Emits}
 use Rattle.command.proofs.settings.Settings as S
 use Rattle.command.proofs.settings.Settings.Laws as S′
 use Rattle.imjarlet.proofs.encoder.list.Symbol as list

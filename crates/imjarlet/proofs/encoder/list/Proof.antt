@@ -2,7 +2,7 @@
 use mathlib.Core.Path.{ap, _∙_}
 use denote.Ref.{now}
 use borrow.Author.Needs.{needs}
-use Rattle.command.specs.Encoder.{refusalOf, sizeOf}
+use Rattle.command.specs.Encoder.{refusalOf, lengthOf}
 use Rattle.imjarlet.proofs.encoder.Laws.{list-says}
 use Rattle.imjarlet.proofs.encoder.list.Statement.{statement}
 use Rattle.imjarlet.proofs.encoder.list.Tie as tie
@@ -13,7 +13,7 @@ returns c =
     let e = l .standard-list .ensures in
     let a = l .before .before .before .args in
     let refused = c .told .ensures .0 ∙ ap refusalOf (e .0) in
-    let count = c .told .ensures .1 ∙ ap sizeOf (e .0) in
+    let count = c .told .ensures .1 ∙ ap lengthOf (e .0) in
     record { refused = refused; count = count; says = rw (refused, count) (list-says (a .settings) (now (a .out))); written = e .1 }
 
 pub list-spec : {M : Type 1} → statement M

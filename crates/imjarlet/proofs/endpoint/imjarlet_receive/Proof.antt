@@ -6,7 +6,7 @@ use Rattle.packet.proofs.Lending.{struct-held}
 use Rattle.packet.proofs.Lending.InPlace.{Call, lending, lends}
 use Rattle.command.specs.Endpoint.{receiveCall}
 use Rattle.command.specs.Lent.{controllerOf}
-use Rattle.imjarlet.specs.Boundary.{Receives}
+use Rattle.imjarlet.specs.Exports.{Receives}
 use Rattle.command.proofs.settings.Settings as P
 use Rattle.command.proofs.settings.Settings.Laws as P′
 use Rattle.command.proofs.controller.Registers as R

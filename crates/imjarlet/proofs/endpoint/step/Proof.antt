@@ -24,7 +24,7 @@ returns c =
       leaves =
           rw (stored-settings came (now (u .input)) (now (u .out)) a (ap (λ (x : After). x .controller .settings) e) (s .serve .ensures .1))
           (ap (λ (x : After). x .controller) e);
-      written = ap (λ (x : After). x .output) e;
+      writes = ap (λ (x : After). x .output) e;
     }
 
 pub step-spec : {M : Type 1} → statement M

@@ -3,7 +3,7 @@ use mathlib.Core.Path.{_≡_, refl}
 use mir.Syntax.{w32}
 use denote.Struct.Laws.{tells, owed}
 use Rattle.packet.proofs.Lending.{Fill, struct-held, number, filling, fills}
-use Rattle.imjarlet.specs.Boundary.{Judges}
+use Rattle.imjarlet.specs.Exports.{Judges}
 use Rattle.imjarlet.proofs.verdict.Verdict as T
 use Rattle.imjarlet.proofs.verdict.Verdict.Laws as T′
 use Rattle.imjarlet.proofs.verdict.Judged as S

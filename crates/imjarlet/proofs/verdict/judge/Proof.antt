@@ -4,7 +4,7 @@ use denote.Ref.{now}
 use borrow.Author.Needs.{needs}
 use Rattle.packet.proofs.NumberLaws.{bytes-at}
 use Rattle.report.specs.Claim.{Demand3}
-use Rattle.imjarlet.specs.Boundary.{verdictOf, refusalIn, toldBy}
+use Rattle.imjarlet.specs.Exports.{verdictOf, refusalIn, toldBy}
 use Rattle.imjarlet.proofs.verdict.Laws.{told-verdict}
 use Rattle.imjarlet.proofs.verdict.judge.Statement.{statement}
 use Rattle.imjarlet.proofs.verdict.judge.Tie as tie

@@ -1,7 +1,7 @@
 -- `told` meets its contract: in each arm the outcome is known.
 use mathlib.Core.Path.{refl}
 use borrow.Author.Needs.{needs}
-use Rattle.imjarlet.specs.Boundary.{verdictOf, refusalIn}
+use Rattle.imjarlet.specs.Exports.{verdictOf, refusalIn}
 use Rattle.imjarlet.proofs.verdict.told.Statement.{statement}
 use Rattle.imjarlet.proofs.verdict.told.Tie as tie
 

@@ -5,7 +5,7 @@ use mathlib.Core.Bool.{cond}
 use mathlib.Core.List.{List}
 use lib.Dec.{eqb, ltb}
 use lib.ListN.{length}
-use Rattle.packet.specs.Answer.{outcomeTold, Told}
+use Rattle.packet.specs.Answer.{Performed}
 use Rattle.command.specs.Table.{commandOf}
 use Rattle.command.specs.Settings.{valuesOf, factory}
 use Rattle.command.specs.declared.settings.Settings.{Settings}
@@ -19,18 +19,15 @@ use Rattle.report.specs.Report as tuning
 use Rattle.report.specs.Claim.{Demand3}
 use Rattle.imjarlet.specs.declared.verdict.Verdict.{Verdict}
 
--- A receive call that does as `after` says: the refusal, the bytes taken, the response's length (0: "waiting"), the controller and the output afterwards.
-pub record Receives (after : endpoint.After) (refusal taken size : ℕ) (controller : Controller) (output : List ℕ) : Type 0 where
-  pub told : Told (after .answer) refusal taken size
-  -- the three numbers say the answer
-  pub says : outcomeTold refusal taken size ≡ after .answer
-  pub leaves : controller ≡ after .controller
-  pub written : output ≡ after .output
+-- A receive call that does as `after` says: the refusal, the bytes taken, the response's length, the controller and the output afterwards.
+abbrev pub Receives : endpoint.After → ℕ → ℕ → ℕ → Controller → List ℕ → Type 0
+Receives after refusal taken size controller output =
+    Performed (after .answer) (after .controller) (after .output) refusal taken size controller output
 
 -- A call of the encoder, or of the standard list, that does as `after` says: the refusal, the length written at the output's start, the output afterwards.
 pub record Emits (after : encoding.After) (refusal size : ℕ) (output : List ℕ) : Type 0 where
   pub refused : refusal ≡ encoding.refusalOf (after .answer)
-  pub count : size ≡ encoding.sizeOf (after .answer)
+  pub count : size ≡ encoding.lengthOf (after .answer)
   -- the two numbers say the answer
   pub says : encoding.outcomeTold refusal size ≡ after .answer
   pub written : output ≡ after .output
