@@ -578,6 +578,37 @@ module _ (c : Fill) where
   pub fills : {M : Type 1} (𝓤 : URA M) (H : Heap 𝓤) (𝓜 : Model 𝓤 H) (𝓖 : GhostRules 𝓤 H) (𝓡 : Running 𝓤 H 𝓜) → Proves fill-law 𝓤 H 𝓜 𝓖 𝓡
   fills = proves fill-law fill-walk
 
+-- ---- a struct, an input, an output and two numbers that are lent: the entry and the exit of a walk over them
+abbrev beside : List (Param 5)
+beside = input 1 tt ∷ output 2 tt ∷ count 3 tt ∷ count 4 tt ∷ []
+
+abbrev step-ps : Held → List (Param 5)
+step-ps T = stored 0 tt T ∷ beside
+
+-- the tokens of all but the struct; with what says the last values zs, k and m
+abbrev step-tokens : {M : Type 1} (𝓤 : URA M) → Lfts 4 → Shares 4 → Item 𝓤
+step-tokens 𝓤 κs qs = ‵ (flft (κs .0) (qs .0)) ⊛ ‵ (flft (κs .1 .0) (qs .1 .0)) ⊛ ‵ (flft (κs .1 .1 .0) (qs .1 .1 .0)) ⊛ ‵ (flft (κs .1 .1 .1 .0) (qs .1 .1 .1 .0)) ⊛ ‵ ftrue
+
+abbrev step-ends : {M : Type 1} (𝓤 : URA M) → Lfts 4 → Shares 4 → RefT (List ℕ) → RefT ℕ → RefT ℕ → List ℕ → ℕ → ℕ → Item 𝓤
+step-ends 𝓤 κs qs u t z zs k m = step-tokens 𝓤 κs qs ⊛ ‵ (fsep (finally u8 (u .name) zs) (fsep (fres (t .name) (u64 .coded .code k)) (fsep (fres (z .name) (u64 .coded .code m)) ftrue)))
+
+module _ {M : Type 1} {𝓤 : URA M} {H : Heap 𝓤} {A : Atoms 𝓤} {K : Type 0} {W : Given 𝓤 H A} (t : K) (T N : Held) (Φ : Fact (ended 5 (slots (step-ps T)) (N .row))) (κs : Lfts 5) (qs : Shares 5) (a : Args (ended 5 (slots (step-ps T)) (N .row) .signature) κs) where
+  -- [obs; the borrow; c's token; what the others own; their tokens; what i owns]
+  step-lent : {G : Goal 𝓤 H}
+      → Step K W (Lent 𝓤 T (κs .0) (qs .0) (a .0) (a .0 .now) (‵ (owns (typesAt (slots beside) κs) (a .1) (lent 𝓤 H A (step-ps T) (N .row) Φ κs qs a .4 .1)) ∷ step-tokens 𝓤 (κs .1) (qs .1) ∷ ‵ (Input (κs .1 .0) (a .1 .0)) ∷ [])) G
+      ((‵ (flft (κs .0) (qs .0)) ⊛ step-tokens 𝓤 (κs .1) (qs .1)) ∷ ‵ (owns (typesAt (slots (step-ps T)) κs) a (lent 𝓤 H A (step-ps T) (N .row) Φ κs qs a .4)) ∷ []) G
+  step-lent =
+      step (λ s. split t $ move t (2 ∷ []) $ fsplit t $ fsplit3 t $ drop t $ move t (2 ∷ []) $ fsplit t $
+      use1 W (‵ (Input (κs .1 .0) (a .1 .0)) ⊛ ‵ (Input (κs .1 .0) (a .1 .0))) (shr-slice-copy 𝓤 H A W (named 1) (κs .1 .0) u8 .twice (a .1 .0) (span (a .1 .0) ∷ [])) $ split t $ move t (0 ∷ 2 ∷ []) $ fjoin t $ keep t (2 ∷ 3 ∷ 4 ∷ 0 ∷ 5 ∷ 1 ∷ []) $ s)
+
+  step-back : (x : T .row .Denot) (r : N .row .Denot) (zs : List ℕ) (k m : ℕ) → length zs ≡ length (a .1 .1 .0 .now)
+      → Φ κs a r (atExit (ended 5 (slots (step-ps T)) (N .row)) κs a (x, (tt, (zs, (k, (m, tt)))))) → Is (N .row) r (N .val r ∷ [])
+      → Seq K W (Lent 𝓤 T (κs .0) (qs .0) (a .0) x (step-ends 𝓤 (κs .1) (qs .1) (a .1 .1 .0) (a .1 .1 .1 .0) (a .1 .1 .1 .1 .0) zs k m ∷ ‵ (Input (κs .1 .0) (a .1 .0)) ∷ [])) (prop (Returns 𝓤 H A (step-ps T) (N .row) Φ κs qs a (N .val r)))
+  step-back x r zs k m len φ is =
+      returned t (step-ps T) (N .row) Φ κs qs a (N .val r) r (x, (tt, (zs, (k, (m, tt))))) (tt, (tt, (len, (tt, (tt, tt))))) φ $ has-back t T (a .0) x $ move t (2 ∷ []) $ split t $
+      -- [the tokens; the last values; what c owns; c's token; what i owns]
+      move t (3 ∷ 0 ∷ []) $ join t $ frame t $ move t (2 ∷ 0 ∷ []) $ fjoin t $ move t (1 ∷ 0 ∷ []) $ fjoin t $ frame t $ held t N r _ is $ done t
+
 -- ---- `let s = f(*c, input, out, k, n); *c = s.state; s.answer`
 -- `Said`: what `f` says of the struct, the input, the output and the two numbers at entry, of its result, and of the output and the numbers at exit. `Left`: what the function says of the same, with the struct at exit and its result for what `f` returned.
 pub record Call : Type 2 where
@@ -597,15 +628,12 @@ module _ (c : Call) where
   abbrev step-f-says : Fact step-f
   step-f-says κs a r e = Said (a .0) (now (a .1 .0)) (now (a .1 .1 .0)) (now (a .1 .1 .1 .0)) (now (a .1 .1 .1 .1 .0)) r (now (e .1 .1 .0)) (now (e .1 .1 .1 .0)) (now (e .1 .1 .1 .1 .0))
 
-  abbrev step-ps : List (Param 5)
-  step-ps = stored 0 tt T ∷ input 1 tt ∷ output 2 tt ∷ count 3 tt ∷ count 4 tt ∷ []
-
-  abbrev step-says : Fact (ended 5 (slots step-ps) (N .row))
+  abbrev step-says : Fact (ended 5 (slots (step-ps T)) (N .row))
   step-says κs a r e = Left (now (a .0)) (now (a .1 .0)) (now (a .1 .1 .0)) (now (a .1 .1 .1 .0)) (now (a .1 .1 .1 .1 .0)) (now (e .0)) r (now (e .1 .1 .0)) (now (e .1 .1 .1 .0)) (now (e .1 .1 .1 .1 .0))
 
   abbrev pub stepping : Name → Fn
   stepping f =
-      code-of 5 step-ps (N .ty) (parted-ty S ∷ T .ty ∷ tyRef erased mut (tyInt w8) ∷ slice erased mut ∷ tyRef erased mut (tyInt w64) ∷ tyRef erased mut (tyInt w64) ∷ [])
+      code-of 5 (step-ps T) (N .ty) (parted-ty S ∷ T .ty ∷ tyRef erased mut (tyInt w8) ∷ slice erased mut ∷ tyRef erased mut (tyInt w64) ∷ tyRef erased mut (tyInt w64) ∷ [])
       (seq (assign (place 7 []) (rvOpd (copy (place 1 (deref (T .ty) ∷ [])))))
       (seq (assign (place 8 []) (addrOf (place 3 (field 0 ∷ deref (tyInt w8) ∷ []))))
       (seq (assign (place 9 []) (aggregate (copy (place 8 []) ∷ copy (place 3 (field 1 ∷ [])) ∷ [])))
@@ -615,17 +643,12 @@ module _ (c : Call) where
       (seq (assign (place 1 (deref (T .ty) ∷ [])) (rvOpd (copy (place 6 (field 0 ∷ []))))) (seq (assign (place 0 []) (rvOpd (copy (place 6 (field 1 ∷ []))))) return))))))))
 
   abbrev step-law : Law
-  step-law = record { f = step-f; f-says = step-f-says; n = 5; ps = step-ps; R = N .row; it-says = step-says; code = stepping }
-
-  -- the tokens that `f` borrows and hands back
-  abbrev step-tokens : {M : Type 1} (𝓤 : URA M) → Lfts 4 → Shares 4 → Item 𝓤
-  step-tokens 𝓤 κs qs = ‵ (flft (κs .0) (qs .0)) ⊛ ‵ (flft (κs .1 .0) (qs .1 .0)) ⊛ ‵ (flft (κs .1 .1 .0) (qs .1 .1 .0)) ⊛ ‵ (flft (κs .1 .1 .1 .0) (qs .1 .1 .1 .0)) ⊛ ‵ ftrue
+  step-law = record { f = step-f; f-says = step-f-says; n = 5; ps = step-ps T; R = N .row; it-says = step-says; code = stepping }
 
   step-walk : Walks step-law
   step-walk M 𝓤 H A W C Λ fm f known κs qs a are =
-      qed W ((‵ (flft (κs .0) (qs .0)) ⊛ step-tokens 𝓤 (κs .1) (qs .1)) ∷ ‵ (owns (typesAt (slots step-ps) κs) a (lent 𝓤 H A step-ps (N .row) step-says κs qs a .4)) ∷ []) ∵
-      split ! $ move ! (2 ∷ []) $ fsplit ! $ fsplit3 ! $ drop ! $ move ! (2 ∷ []) $ fsplit ! $ use1 W (‵ (Input (κs .1 .0) (a .1 .0)) ⊛ ‵ (Input (κs .1 .0) (a .1 .0))) (shr-slice-copy 𝓤 H A W (named 1) (κs .1 .0) u8 .twice (a .1 .0) (span (a .1 .0) ∷ [])) $ split ! $
-      move ! (0 ∷ 2 ∷ []) $ fjoin ! $ keep ! (2 ∷ 3 ∷ 4 ∷ 0 ∷ 5 ∷ 1 ∷ []) $ enter ! C Λ (stepping f) (at (a .0) ∷ span (a .1 .0) ∷ span (a .1 .1 .0) ∷ at (a .1 .1 .1 .0) ∷ at (a .1 .1 .1 .1 .0) ∷ []) _ $
+      qed W ((‵ (flft (κs .0) (qs .0)) ⊛ step-tokens 𝓤 (κs .1) (qs .1)) ∷ ‵ (owns (typesAt (slots (step-ps T)) κs) a (lent 𝓤 H A (step-ps T) (N .row) step-says κs qs a .4)) ∷ []) ∵
+      step-lent ! T N step-says κs qs a $ enter ! C Λ (stepping f) (at (a .0) ∷ span (a .1 .0) ∷ span (a .1 .1 .0) ∷ at (a .1 .1 .1 .0) ∷ at (a .1 .1 .1 .1 .0) ∷ []) _ $
       alloc1 ! (λ l₀. alloc1 ! (λ l₁. alloc1 ! (λ l₂. alloc1 ! (λ l₃. alloc1 ! (λ l₄. alloc1 ! (λ l₅. alloc1 ! (λ l₆. alloc1 ! (λ l₇. alloc1 ! (λ l₈. alloc1 ! (λ l₉. alloc1 ! (λ l₁₀. alloc1 ! (λ l₁₁. alloc0 ! $ params1 ! $
       pass1 ! (init ! 20 refl (tt, tt)) $ pass1 ! (init ! 18 refl (shr-slice-lawful 𝓤 H A W (named 1) (κs .1 .0) u8 .typed (a .1 .0) (span (a .1 .0) ∷ []) (are .1 .0) .0)) $ pass1 ! (init ! 16 refl (room (a .1 .1 .0) (are .1 .1 .0 .0 .1))) $
       pass1 ! (init ! 14 refl (tt, tt)) $ pass1 ! (init ! 12 refl (tt, tt)) $ pass0 ! $
@@ -637,7 +660,7 @@ module _ (c : Call) where
       assigns ! (addr ! (from ! (hop ! (look ! 17 refl) (stop !)))) (from ! (stop !)) (init ! 5 refl (tt, tt)) $ assigns ! (addr ! (from ! (hop ! (look ! 15 refl) (stop !)))) (from ! (stop !)) (init ! 3 refl (tt, tt)) $
       -- what `f` asks is joined
       move ! (27 ∷ []) $ held ! T (a .0 .now) _ is $ fjoin ! $ move ! (28 ∷ 0 ∷ []) $ join ! $
-      asks ! fm step-f step-f-says known (κs .1, qs .1, tt, (a .0 .now, a .1), (T .val (a .0 .now) ∷ [], lent 𝓤 H A step-ps (N .row) step-says κs qs a .4 .1)) (id⊢ 𝓤 _) (and-then ! (load ! (from ! (stop !)) (look ! 12 refl)) (and-then ! (load ! (from ! (stop !)) (look ! 22 refl))
+      asks ! fm step-f step-f-says known (κs .1, qs .1, tt, (a .0 .now, a .1), (T .val (a .0 .now) ∷ [], lent 𝓤 H A (step-ps T) (N .row) step-says κs qs a .4 .1)) (id⊢ 𝓤 _) (and-then ! (load ! (from ! (stop !)) (look ! 12 refl)) (and-then ! (load ! (from ! (stop !)) (look ! 22 refl))
       (and-then ! (load ! (from ! (stop !)) (look ! 8 refl)) (and-then ! (load ! (from ! (stop !)) (look ! 6 refl)) (and-then ! (load ! (from ! (stop !)) (look ! 4 refl)) (no-more !)))))) (λ w r ws e is.
       -- [what `f` hands back; obs; the borrow; c's token; _11; …; room for _0; …; what i owns]
       land ! (from ! (stop !)) (init ! 14 refl (parted-typed 𝓤 H A W S r w is)) $ rewrite ! 14 (λ (z : Val). ‵ (fat fullShare (parted-ty S) l₆ 0 z)) (ap only (S .spells r _ is)) refl $
@@ -646,11 +669,10 @@ module _ (c : Call) where
       returns ! (look ! 26 refl) $ leaves ! 26 refl refl $ leaves ! 24 refl refl $ leaves ! 22 refl refl $ leaves ! 20 refl refl $ leaves ! 18 refl refl $ leaves ! 16 refl refl $ leaves ! 14 refl refl $ leaves ! 12 refl refl $
       leaves ! 10 refl refl $ leaves ! 8 refl refl $ leaves ! 6 refl refl $ leaves ! 4 refl refl $ free0 ! $
       -- [obs; the borrow; c's token; what `f` hands back; what i owns]
-      has-back ! T (a .0) (S .state r) $ move ! (2 ∷ []) $ use1 W (step-tokens 𝓤 (κs .1) (qs .1) ⊛ ‵ (lasts step-f (κs .1) (a .0 .now, a .1) ws)) (id⊢ 𝓤 _) $ split ! $ move ! (1 ∷ []) $ fsplit ! $ drop ! $ fsplit ! $ drop ! $ fsplit ! $ fsplit ! $ move ! (1 ∷ []) $ feqL ! (λ l.
-      -- [the output's last list; the numbers' last values; the tokens; what c owns; c's token; what i owns]
-      returned ! step-ps (N .row) step-says κs qs a (N .val (S .answer r)) (S .answer r) (S .state r, (tt, (ws .1 .1 .0, (ws .1 .1 .1 .0, (ws .1 .1 .1 .1 .0, tt))))) (tt, (tt, (l, (tt, (tt, tt)))))
-      (follows (a .0 .now) (a .1 .0 .now) (a .1 .1 .0 .now) (a .1 .1 .1 .0 .now) (a .1 .1 .1 .1 .0 .now) r (ws .1 .1 .0) (ws .1 .1 .1 .0) (ws .1 .1 .1 .1 .0) e) $
-      move ! (4 ∷ 2 ∷ []) $ join ! $ frame ! $ fjoin ! $ move ! (2 ∷ 0 ∷ []) $ fjoin ! $ move ! (1 ∷ 0 ∷ []) $ fjoin ! $ frame ! $ held ! N (S .answer r) _ (S .are r _ is .1 .0) $ done !)))))))))))))))
+      move ! (3 ∷ []) $ use1 W (step-tokens 𝓤 (κs .1) (qs .1) ⊛ ‵ (lasts step-f (κs .1) (a .0 .now, a .1) ws)) (id⊢ 𝓤 _) $ split ! $ move ! (1 ∷ []) $ fsplit ! $ drop ! $ fsplit ! $ drop ! $ fsplit ! $ fsplit ! $ move ! (1 ∷ []) $ feqL ! (λ l.
+      fjoin ! $ move ! (1 ∷ 0 ∷ []) $ join ! $ move ! (1 ∷ 2 ∷ 3 ∷ []) $
+      step-back ! T N step-says κs qs a (S .state r) (S .answer r) (ws .1 .1 .0) (ws .1 .1 .1 .0) (ws .1 .1 .1 .1 .0) l
+      (follows (a .0 .now) (a .1 .0 .now) (a .1 .1 .0 .now) (a .1 .1 .1 .0 .now) (a .1 .1 .1 .1 .0 .now) r (ws .1 .1 .0) (ws .1 .1 .1 .0) (ws .1 .1 .1 .1 .0) e) (S .are r _ is .1 .0))))))))))))))))
 
   pub steps : {M : Type 1} (𝓤 : URA M) (H : Heap 𝓤) (𝓜 : Model 𝓤 H) (𝓖 : GhostRules 𝓤 H) (𝓡 : Running 𝓤 H 𝓜) → Proves step-law 𝓤 H 𝓜 𝓖 𝓡
   steps = proves step-law step-walk

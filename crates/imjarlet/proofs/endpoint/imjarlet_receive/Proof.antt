@@ -1,7 +1,7 @@
 -- `imjarlet_receive` meets its contract: it passes settings and registers and hands the arrays on in place to `step`, stores the registers of what that returns, and its settings where it says so (`lends`, of the packet layer's Lending).
 use mathlib.Core.Path.{_≡_, refl}
 use mathlib.Core.Bool.{cond}
-use denote.Struct.Laws.{tells, owed, owes, makes}
+use denote.Struct.Laws.{tells, owed, owes}
 use Rattle.packet.proofs.Lending.{struct-held}
 use Rattle.packet.proofs.Lending.InPlace.{Call, lending, lends}
 use Rattle.command.specs.Endpoint.{receiveCall}
@@ -24,12 +24,12 @@ use Rattle.imjarlet.proofs.endpoint.imjarlet_receive.Code as code
 abbrev the-call : Call
 the-call =
     record {
+      T = struct-held T.the-type T′.the-laws T′.the-plain;
       P = struct-held P.the-type P′.the-laws P′.the-plain;
       R = struct-held R.the-type R′.the-laws R′.the-plain;
       n = 1024;
-      T =
+      L =
           record {
-            row = T.the-row;
             name = T.struct .name;
             settings = λ c. c .settings;
             registers = λ c. c .registers;
@@ -38,7 +38,6 @@ the-call =
             of = controllerOf;
             lies = refl;
             spells = tells T.the-type T′.the-laws;
-            makes = λ M 𝓤 H A. makes T.the-type T′.the-plain 𝓤 H A;
             are = owed T.the-type T′.the-laws;
             owes = λ p r ys zs. owes T.the-type T′.the-laws (controllerOf p r ys zs);
           };
@@ -54,10 +53,10 @@ the-call =
             are = owed S.the-type S′.the-laws;
           };
       Said =
-          λ p r buffer hold input out s l. Receives (receiveCall (controllerOf p r buffer hold) input out) (s .refusal) (l .taken) (l .size)
-          (controllerOf (cond (s .stored) (s .settings) p) (s .registers) (l .buffer) (l .hold)) (l .out);
+          λ p r buffer hold input out s buffer′ hold′ last taken size. Receives (receiveCall (controllerOf p r buffer hold) input out) (s .refusal) taken size
+          (controllerOf (cond (s .stored) (s .settings) p) (s .registers) buffer′ hold′) last;
       Left = λ c input out after r last taken size. Receives (receiveCall c input out) r taken size after last;
-      follows = λ c input out s l said. said;
+      follows = λ c input out s buffer′ hold′ last taken size said. said;
     }
 
 function-is : code.function ≡ lending the-call step.name
