@@ -65,9 +65,6 @@ module _ (P R : Held) (n : ℕ) where
   abbrev fields : Tys
   fields = tcons (P .ty) (tcons (R .ty) (tcons (bytes-ty n) (tcons (bytes-ty n) tnil)))
 
-  abbrev lent-ty : Sym → Ty
-  lent-ty ν = tyStruct ν fields
-
   -- where the arrays lie
   at-buffer : ℕ
   at-buffer = up (align (bytes-ty n)) (up (align (R .ty)) (up (align (P .ty)) zero + size (P .ty)) + size (R .ty))
@@ -113,7 +110,7 @@ abbrev pub returned-ty : {P R : Held} → Returned P R → Ty
 returned-ty {P} {R} S = tyStruct (S .name) (tcons (P .ty) (tcons (R .ty) (tcons tyBool (tcons (tyInt w32) tnil))))
 
 -- `Said`: what `f` says of its parameters at entry, of its result, and of the arrays, the output and the two numbers at exit. `Left`: what the function says of the struct, the input and the output at entry, of the struct at exit, of its result, and of the output and the numbers at exit.
-pub record Call : Type 2 where
+pub record Lend : Type 2 where
   pub T : Held
   pub P : Held
   pub R : Held
@@ -125,8 +122,8 @@ pub record Call : Type 2 where
   pub follows : (h : T .row .Denot) (i u : List ℕ) (s : S .row .Denot) (ys zs out : List ℕ) (k m : ℕ) → Said (L .settings h) (L .registers h) (L .buffer h) (L .hold h) i u s ys zs out k m
       → Left h i u (L .of (either (S .stored s) (S .settings s) (L .settings h)) (S .registers s) ys zs) (S .refusal s) out k m
 
-module _ (c : Call) where
-  open Call c using (T, P, R, n, L, S, Said, Left, follows)
+module _ (c : Lend) where
+  open Lend c using (T, P, R, n, L, S, Said, Left, follows)
 
   abbrev lend-f : Ended
   lend-f =
@@ -143,7 +140,7 @@ module _ (c : Call) where
   lend-says κs a r e = Left (now (a .0)) (now (a .1 .0)) (now (a .1 .1 .0)) (now (e .0)) r (now (e .1 .1 .0)) (now (e .1 .1 .1 .0)) (now (e .1 .1 .1 .1 .0))
 
   abbrev T-ty : Ty
-  T-ty = lent-ty P R n (L .name)
+  T-ty = tyStruct (L .name) (fields P R n)
 
   abbrev bytes-ref : Ty
   bytes-ref = tyRef erased mut (bytes-ty n)

@@ -3,7 +3,7 @@ use mathlib.Core.Path.{_≡_, refl}
 use mathlib.Core.Bool.{cond}
 use denote.Struct.Laws.{tells, owed, owes}
 use Rattle.packet.proofs.Lending.{struct-held}
-use Rattle.packet.proofs.Lending.InPlace.{Call, lending, lends}
+use Rattle.packet.proofs.Lending.InPlace.{Lend, lending, lends}
 use Rattle.command.specs.Endpoint.{receiveCall}
 use Rattle.command.specs.Lent.{controllerOf}
 use Rattle.imjarlet.specs.Exports.{Receives}
@@ -21,7 +21,7 @@ use Rattle.imjarlet.proofs.endpoint.imjarlet_receive.Key as key
 use Rattle.imjarlet.proofs.endpoint.imjarlet_receive.Statement as stated
 use Rattle.imjarlet.proofs.endpoint.imjarlet_receive.Code as code
 
-abbrev the-call : Call
+abbrev the-call : Lend
 the-call =
     record {
       T = struct-held T.the-type T′.the-laws T′.the-plain;
