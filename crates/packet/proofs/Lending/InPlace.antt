@@ -1,7 +1,7 @@
 -- A call over a struct that the caller lends, which hands the struct's arrays on in place and copies none: one walk of MIR, for every struct of two plain structs and two arrays of n bytes.
---     lends       `let s = f(c.settings, c.registers, &mut c.buffer, &mut c.hold, input, out, taken, size); c.registers = s.registers; if s.stored { c.settings = s.settings; } s.refusal`
+--     lends       `let s = f(c.former, c.latter, &mut c.low, &mut c.high, input, out, k, m); c.latter = s.latter; if s.replaces { c.former = s.former; } s.answer`
 -- The crate says what its types are (`struct-held`, `Lendable`, `Returned`), what `f` ensures and what follows of it, and that its function is the one walked here (`refl`).
--- The walk opens the borrow of the struct and copies the two plain structs out. It takes the struct's cell apart and lends the arrays' cells to `f`, each for a lifetime that is made for the call (`Arrays`), beside the slices and the two numbers, which go on for good. The arrays come back, the cell is whole again, the registers and, where `f` says so, the settings are stored in it, and the borrow is closed.
+-- The walk opens the borrow of the struct and copies the two plain structs out. It takes the struct's cell apart and lends the arrays' cells to `f`, each for a lifetime that is made for the call (`Arrays`), beside the slices and the two numbers, which go on for good. The arrays come back, the cell is whole again, the latter struct and, where `f` says so, the former are stored in it, and the borrow is closed.
 -- It knows of `f` only that it meets its contract, and never looks into a plain struct: fields may change, and nothing here.
 use mathlib.Core.Path.{_≡_, refl, sym, ap, subst}
 use mathlib.Core.Bool.{Bool, true, false, not, cond as either}
@@ -66,11 +66,11 @@ module _ (P R : Held) (n : ℕ) where
   fields = tcons (P .ty) (tcons (R .ty) (tcons (bytes-ty n) (tcons (bytes-ty n) tnil)))
 
   -- where the arrays lie
-  at-buffer : ℕ
-  at-buffer = up (align (bytes-ty n)) (up (align (R .ty)) (up (align (P .ty)) zero + size (P .ty)) + size (R .ty))
+  at-low : ℕ
+  at-low = up (align (bytes-ty n)) (up (align (R .ty)) (up (align (P .ty)) zero + size (P .ty)) + size (R .ty))
 
-  at-hold : ℕ
-  at-hold = up (align (bytes-ty n)) (at-buffer + size (bytes-ty n))
+  at-high : ℕ
+  at-high = up (align (bytes-ty n)) (at-low + size (bytes-ty n))
 
 -- the fields of either struct, by their machine values
 abbrev values : (P R : Held) → P .row .Denot → R .row .Denot → Val → Val → Vals
@@ -79,16 +79,16 @@ values P R p r u w = vcons (P .val p) (vcons (R .val r) (vcons u (vcons w vnil))
 -- The struct that is lent: its parts, and how it is made of them.
 pub record Lendable (T P R : Held) (n : ℕ) : Type 2 where
   pub name : Sym
-  pub settings : T .row .Denot → P .row .Denot
-  pub registers : T .row .Denot → R .row .Denot
-  pub buffer : T .row .Denot → List ℕ
-  pub hold : T .row .Denot → List ℕ
+  pub former : T .row .Denot → P .row .Denot
+  pub latter : T .row .Denot → R .row .Denot
+  pub low : T .row .Denot → List ℕ
+  pub high : T .row .Denot → List ℕ
   pub of : P .row .Denot → R .row .Denot → List ℕ → List ℕ → T .row .Denot
   pub lies : T .ty ≡ tyStruct name (fields P R n)
-  pub spells : (h : T .row .Denot) (vs : List Val) → Is (T .row) h vs → vs ≡ vstruct (values P R (settings h) (registers h) (bytes-val (buffer h)) (bytes-val (hold h))) ∷ []
+  pub spells : (h : T .row .Denot) (vs : List Val) → Is (T .row) h vs → vs ≡ vstruct (values P R (former h) (latter h) (bytes-val (low h)) (bytes-val (high h))) ∷ []
   pub are : (h : T .row .Denot) (vs : List Val) → Is (T .row) h vs
-      → Is (P .row) (settings h) (P .val (settings h) ∷ []) × (Is (R .row) (registers h) (R .val (registers h) ∷ [])
-      × (Is (Bytes n) (each-of (buffer h)) (bytes-val (buffer h) ∷ []) × (Is (Bytes n) (each-of (hold h)) (bytes-val (hold h) ∷ []) × Unit {0})))
+      → Is (P .row) (former h) (P .val (former h) ∷ []) × (Is (R .row) (latter h) (R .val (latter h) ∷ [])
+      × (Is (Bytes n) (each-of (low h)) (bytes-val (low h) ∷ []) × (Is (Bytes n) (each-of (high h)) (bytes-val (high h) ∷ []) × Unit {0})))
   pub owes : (p : P .row .Denot) (r : R .row .Denot) (ys zs : List ℕ)
       → Is (P .row) p (P .val p ∷ []) × (Is (R .row) r (R .val r ∷ []) × (Is (Bytes n) (each-of ys) (bytes-val ys ∷ []) × (Is (Bytes n) (each-of zs) (bytes-val zs ∷ []) × Unit {0})))
       → Is (T .row) (of p r ys zs) (vstruct (values P R p r (bytes-val ys) (bytes-val zs)) ∷ [])
@@ -97,14 +97,14 @@ pub record Lendable (T P R : Held) (n : ℕ) : Type 2 where
 pub record Returned (P R : Held) : Type 2 where
   pub row : RattleType
   pub name : Sym
-  pub settings : row .Denot → P .row .Denot
-  pub registers : row .Denot → R .row .Denot
-  pub stored : row .Denot → Bool
-  pub refusal : row .Denot → ℕ
-  pub spells : (s : row .Denot) (vs : List Val) → Is row s vs → vs ≡ vstruct (values P R (settings s) (registers s) (vbool (stored s)) (vint w32 (refusal s))) ∷ []
+  pub former : row .Denot → P .row .Denot
+  pub latter : row .Denot → R .row .Denot
+  pub replaces : row .Denot → Bool
+  pub answer : row .Denot → ℕ
+  pub spells : (s : row .Denot) (vs : List Val) → Is row s vs → vs ≡ vstruct (values P R (former s) (latter s) (vbool (replaces s)) (vint w32 (answer s))) ∷ []
   pub are : (s : row .Denot) (vs : List Val) → Is row s vs
-      → Is (P .row) (settings s) (P .val (settings s) ∷ []) × (Is (R .row) (registers s) (R .val (registers s) ∷ [])
-      × (Is bool (stored s) (vbool (stored s) ∷ []) × (Is u32 (refusal s) (vint w32 (refusal s) ∷ []) × Unit {0})))
+      → Is (P .row) (former s) (P .val (former s) ∷ []) × (Is (R .row) (latter s) (R .val (latter s) ∷ [])
+      × (Is bool (replaces s) (vbool (replaces s) ∷ []) × (Is u32 (answer s) (vint w32 (answer s) ∷ []) × Unit {0})))
 
 abbrev pub returned-ty : {P R : Held} → Returned P R → Ty
 returned-ty {P} {R} S = tyStruct (S .name) (tcons (P .ty) (tcons (R .ty) (tcons tyBool (tcons (tyInt w32) tnil))))
@@ -119,8 +119,8 @@ pub record Lend : Type 2 where
   pub S : Returned P R
   pub Said : P .row .Denot → R .row .Denot → List ℕ → List ℕ → List ℕ → List ℕ → S .row .Denot → List ℕ → List ℕ → List ℕ → ℕ → ℕ → Type 0
   pub Left : T .row .Denot → List ℕ → List ℕ → T .row .Denot → ℕ → List ℕ → ℕ → ℕ → Type 0
-  pub follows : (h : T .row .Denot) (i u : List ℕ) (s : S .row .Denot) (ys zs out : List ℕ) (k m : ℕ) → Said (L .settings h) (L .registers h) (L .buffer h) (L .hold h) i u s ys zs out k m
-      → Left h i u (L .of (either (S .stored s) (S .settings s) (L .settings h)) (S .registers s) ys zs) (S .refusal s) out k m
+  pub follows : (h : T .row .Denot) (i u : List ℕ) (s : S .row .Denot) (ys zs out : List ℕ) (k m : ℕ) → Said (L .former h) (L .latter h) (L .low h) (L .high h) i u s ys zs out k m
+      → Left h i u (L .of (either (S .replaces s) (S .former s) (L .former h)) (S .latter s) ys zs) (S .answer s) out k m
 
 module _ (c : Lend) where
   open Lend c using (T, P, R, n, L, S, Said, Left, follows)
@@ -164,35 +164,35 @@ module _ (c : Lend) where
   abbrev lend-law : Law
   lend-law = record { f = lend-f; f-says = lend-f-says; n = 5; ps = step-ps T; R = u32; it-says = lend-says; code = lending }
 
-  at-2 : fieldOf T-ty 2 ≡ just (bytes-ty n, at-buffer P R n)
-  unfolding at-buffer
+  at-2 : fieldOf T-ty 2 ≡ just (bytes-ty n, at-low P R n)
+  unfolding at-low
   at-2 = refl
 
-  at-3 : fieldOf T-ty 3 ≡ just (bytes-ty n, at-hold P R n)
-  unfolding at-buffer at-hold
+  at-3 : fieldOf T-ty 3 ≡ just (bytes-ty n, at-high P R n)
+  unfolding at-low at-high
   at-3 = refl
 
   -- the machine values of the struct's fields, and where its arrays lie
   abbrev parts : P .row .Denot → R .row .Denot → List ℕ → List ℕ → Vals
   parts p r ys zs = values P R p r (bytes-val ys) (bytes-val zs)
 
-  abbrev p-buffer : RefT (T .row .Denot) → ℕ
-  p-buffer x = x .ptr .1 + at-buffer P R n
+  abbrev p-low : RefT (T .row .Denot) → ℕ
+  p-low x = x .ptr .1 + at-low P R n
 
-  abbrev p-hold : RefT (T .row .Denot) → ℕ
-  p-hold x = x .ptr .1 + at-hold P R n
+  abbrev p-high : RefT (T .row .Denot) → ℕ
+  p-high x = x .ptr .1 + at-high P R n
 
   module _ {M : Type 1} (𝓤 : URA M) (H : Heap 𝓤) (A : Atoms 𝓤) (W : Given 𝓤 H A) where
     returned-typed : (s : S .row .Denot) (v : Val) → Is (S .row) s (v ∷ []) → Holds (hasTy (returned-ty S) v) × WT v
     returned-typed s v is =
         subst (λ (w : Val). Holds (hasTy (returned-ty S) w) × WT w) (sym (ap only (S .spells s (v ∷ []) is)))
-        (as-fields (P .ty ∷ R .ty ∷ tyBool ∷ tyInt w32 ∷ []) (P .val (S .settings s) ∷ R .val (S .registers s) ∷ vbool (S .stored s) ∷ vint w32 (S .refusal s) ∷ [])
-        (typed 𝓤 H A W P (S .settings s) _ (S .are s _ is .0), (typed 𝓤 H A W R (S .registers s) _ (S .are s _ is .1 .0), ((tt, tt), ((tt, record { fits = S .are s _ is .1 .1 .1 .0 .1 }), tt)))))
+        (as-fields (P .ty ∷ R .ty ∷ tyBool ∷ tyInt w32 ∷ []) (P .val (S .former s) ∷ R .val (S .latter s) ∷ vbool (S .replaces s) ∷ vint w32 (S .answer s) ∷ [])
+        (typed 𝓤 H A W P (S .former s) _ (S .are s _ is .0), (typed 𝓤 H A W R (S .latter s) _ (S .are s _ is .1 .0), ((tt, tt), ((tt, record { fits = S .are s _ is .1 .1 .1 .0 .1 }), tt)))))
 
     -- the cell of the struct behind x, and the cells of its fields with the way back
     module _ (x : RefT (T .row .Denot)) where
       abbrev parts-with : List ℕ → List ℕ → Vals
-      parts-with ys zs = parts (L .settings (x .now)) (L .registers (x .now)) ys zs
+      parts-with ys zs = parts (L .former (x .now)) (L .latter (x .now)) ys zs
 
       abbrev Cell : Vals → Item 𝓤
       Cell us = ‵ (fat fullShare T-ty (x .ptr .0) (x .ptr .1) (vstruct us))
@@ -203,49 +203,49 @@ module _ (c : Lend) where
       abbrev Back : Vals → SProp 𝓤
       Back us = wand 𝓤 (Spread us) (mean 𝓤 H A (Cell us))
 
-      abbrev At-settings : Item 𝓤
-      At-settings = ‵ (fat fullShare (P .ty) (x .ptr .0) (x .ptr .1 + up (align (P .ty)) zero) (P .val (L .settings (x .now))))
+      abbrev At-former : Item 𝓤
+      At-former = ‵ (fat fullShare (P .ty) (x .ptr .0) (x .ptr .1 + up (align (P .ty)) zero) (P .val (L .former (x .now))))
 
-      abbrev At-registers : Item 𝓤
-      At-registers = ‵ (fat fullShare (R .ty) (x .ptr .0) (x .ptr .1 + up (align (R .ty)) (up (align (P .ty)) zero + size (P .ty))) (R .val (L .registers (x .now))))
+      abbrev At-latter : Item 𝓤
+      At-latter = ‵ (fat fullShare (R .ty) (x .ptr .0) (x .ptr .1 + up (align (R .ty)) (up (align (P .ty)) zero + size (P .ty))) (R .val (L .latter (x .now))))
 
-      abbrev At-buffer : List ℕ → Item 𝓤
-      At-buffer ys = ‵ (fat fullShare (bytes-ty n) (x .ptr .0) (p-buffer x) (bytes-val ys))
+      abbrev At-low : List ℕ → Item 𝓤
+      At-low ys = ‵ (fat fullShare (bytes-ty n) (x .ptr .0) (p-low x) (bytes-val ys))
 
-      abbrev At-hold : List ℕ → Item 𝓤
-      At-hold zs = ‵ (fat fullShare (bytes-ty n) (x .ptr .0) (p-hold x) (bytes-val zs))
+      abbrev At-high : List ℕ → Item 𝓤
+      At-high zs = ‵ (fat fullShare (bytes-ty n) (x .ptr .0) (p-high x) (bytes-val zs))
 
       -- the arrays' cells, and the rest
       abbrev Apart : List ℕ → List ℕ → Item 𝓤
-      Apart ys zs = At-buffer ys ⊛ At-hold zs ⊛ At-settings ⊛ At-registers ⊛ raw (all 𝓤 Back)
+      Apart ys zs = At-low ys ⊛ At-high zs ⊛ At-former ⊛ At-latter ⊛ raw (all 𝓤 Back)
 
       apart : (ys zs : List ℕ) → ent 𝓤 (mean 𝓤 H A (Cell (parts-with ys zs))) (mean 𝓤 H A (Apart ys zs))
-      unfolding at-buffer at-hold
+      unfolding at-low at-high
       apart ys zs =
           qed W (Cell (parts-with ys zs) ∷ []) ∵
-          use1 W ((At-settings ⊛ At-registers ⊛ At-buffer ys ⊛ At-hold zs ⊛ ‵ ftrue) ⊛ raw (all 𝓤 Back)) (W .laws .at-fields fullShare _ (fields P R n) (x .ptr .0) (x .ptr .1) _) $ split ! $ split3 ! $ move ! (2 ∷ []) $ split3 ! $
-          -- [buffer; hold; true; settings; registers; the way back]
+          use1 W ((At-former ⊛ At-latter ⊛ At-low ys ⊛ At-high zs ⊛ ‵ ftrue) ⊛ raw (all 𝓤 Back)) (W .laws .at-fields fullShare _ (fields P R n) (x .ptr .0) (x .ptr .1) _) $ split ! $ split3 ! $ move ! (2 ∷ []) $ split3 ! $
+          -- [low; high; true; former; latter; the way back]
           keep ! (0 ∷ 1 ∷ 3 ∷ 4 ∷ 5 ∷ []) $ done !
 
       again : (ys zs : List ℕ) → ent 𝓤 (mean 𝓤 H A (Apart ys zs)) (mean 𝓤 H A (Cell (parts-with ys zs)))
-      unfolding at-buffer at-hold
+      unfolding at-low at-high
       again ys zs =
-          qed W (At-buffer ys ∷ At-hold zs ∷ At-settings ∷ At-registers ∷ raw (all 𝓤 Back) ∷ []) ∵
+          qed W (At-low ys ∷ At-high zs ∷ At-former ∷ At-latter ∷ raw (all 𝓤 Back) ∷ []) ∵
           nothing ! $ move ! (3 ∷ 4 ∷ 1 ∷ 2 ∷ 0 ∷ []) $ group ! 5 $ move ! (1 ∷ []) $ use1 W (raw (Back (parts-with ys zs))) (allE 𝓤 Back (parts-with ys zs)) $
           move ! (1 ∷ 0 ∷ []) $ use2 W (Cell (parts-with ys zs)) (apply∗ 𝓤 (Spread (parts-with ys zs)) (mean 𝓤 H A (Cell (parts-with ys zs)))) $ done !
 
-  -- the settings and the struct at exit
+  -- the former struct and the whole at exit
   abbrev after : T .row .Denot → S .row .Denot → P .row .Denot
-  after h s = either (S .stored s) (S .settings s) (L .settings h)
+  after h s = either (S .replaces s) (S .former s) (L .former h)
 
   abbrev made : T .row .Denot → S .row .Denot → List ℕ → List ℕ → T .row .Denot
-  made h s ys zs = L .of (after h s) (S .registers s) ys zs
+  made h s ys zs = L .of (after h s) (S .latter s) ys zs
 
   made-is : (h : T .row .Denot) (vs : List Val) → Is (T .row) h vs → (s : S .row .Denot) (ws : List Val) → Is (S .row) s ws → (ys : List ℕ) → Is (Bytes n) ys (bytes-val ys ∷ []) → (zs : List ℕ) → Is (Bytes n) zs (bytes-val zs ∷ [])
-      → (vstruct (parts (after h s) (S .registers s) ys zs) ≡ T .val (made h s ys zs)) × Is (T .row) (made h s ys zs) (T .val (made h s ys zs) ∷ [])
+      → (vstruct (parts (after h s) (S .latter s) ys zs) ≡ T .val (made h s ys zs)) × Is (T .row) (made h s ys zs) (T .val (made h s ys zs) ∷ [])
   made-is h vs is s ws s-is ys y-is zs z-is =
-      let it : Is (T .row) (made h s ys zs) (vstruct (parts (after h s) (S .registers s) ys zs) ∷ [])
-      = L .owes (after h s) (S .registers s) ys zs (cond-cases (λ (p : P .row .Denot). Is (P .row) p (P .val p ∷ [])) (S .stored s) (λ _. S .are s _ s-is .0) (λ _. L .are h _ is .0), (S .are s _ s-is .1 .0, (of-bytes n ys y-is, (of-bytes n zs z-is, tt)))) in
+      let it : Is (T .row) (made h s ys zs) (vstruct (parts (after h s) (S .latter s) ys zs) ∷ [])
+      = L .owes (after h s) (S .latter s) ys zs (cond-cases (λ (p : P .row .Denot). Is (P .row) p (P .val p ∷ [])) (S .replaces s) (λ _. S .are s _ s-is .0) (λ _. L .are h _ is .0), (S .are s _ s-is .1 .0, (of-bytes n ys y-is, (of-bytes n zs z-is, tt)))) in
       (ap only (T .tells (made h s ys zs) _ it), subst (Is (T .row) (made h s ys zs)) (T .tells (made h s ys zs) _ it) it)
 
   lend-walk : Walks lend-law
@@ -258,7 +258,7 @@ module _ (c : Lend) where
       -- the borrow of the struct is opened
       move ! (32 ∷ 33 ∷ 34 ∷ []) $ opens-held ! tt T (a .0) (λ is.
       rewrite ! 0 (λ (τ : Ty). ‵ (fat fullShare (rawTy τ) (a .0 .ptr .0) (a .0 .ptr .1) (T .val (a .0 .now)))) (L .lies) refl $ rewrite ! 0 (λ (v : Val). ‵ (fat fullShare (rawTy T-ty) (a .0 .ptr .0) (a .0 .ptr .1) v)) (ap only (L .spells (a .0 .now) _ is)) refl $
-      use1 W (Cell 𝓤 H A W (a .0) (parts-with 𝓤 H A W (a .0) (L .buffer (a .0 .now)) (L .hold (a .0 .now)))) (W .laws .raw-at fullShare T-ty (a .0 .ptr .0) (a .0 .ptr .1) _) $
+      use1 W (Cell 𝓤 H A W (a .0) (parts-with 𝓤 H A W (a .0) (L .low (a .0 .now)) (L .high (a .0 .now)))) (W .laws .raw-at fullShare T-ty (a .0 .ptr .0) (a .0 .ptr .1) _) $
       -- [the struct's cell; the open borrow; obs; auth; _15 4; …; _14 6; …; _6 22; …; _1 32; …; room for _0 34; …; what the others own; their tokens; what i owns]
       assigns ! (of-opd ! (load ! (from ! (hop ! (look ! 32 refl) (fld ! refl (stop !)))) (look-in ! 0 (sub ! 0 refl (whole !))))) (from ! (stop !)) (init ! 20 refl (typed 𝓤 H A W P _ _ (L .are (a .0 .now) _ is .0))) $
       assigns ! (of-opd ! (load ! (from ! (hop ! (look ! 32 refl) (fld ! refl (stop !)))) (look-in ! 0 (sub ! 1 refl (whole !))))) (from ! (stop !)) (init ! 18 refl (typed 𝓤 H A W R _ _ (L .are (a .0 .now) _ is .1 .0))) $
@@ -268,43 +268,43 @@ module _ (c : Lend) where
       assigns ! (agg ! (and-then ! (load ! (from ! (stop !)) (look ! 12 refl)) (and-then ! (load ! (from ! (fld ! refl (stop !))) (look-in ! 28 (sub ! 1 refl (whole !)))) (no-more !)))) (from ! (stop !)) (init ! 10 refl (room (a .1 .1 .0) (are .1 .1 .0 .0 .1))) $
       assigns ! (addr ! (from ! (hop ! (look ! 26 refl) (stop !)))) (from ! (stop !)) (init ! 8 refl (tt, tt)) $ assigns ! (addr ! (from ! (hop ! (look ! 24 refl) (stop !)))) (from ! (stop !)) (init ! 6 refl (tt, tt)) $
       -- the arrays' cells are taken out and lent
-      use1 W (Apart 𝓤 H A W (a .0) (L .buffer (a .0 .now)) (L .hold (a .0 .now))) (apart 𝓤 H A W (a .0) (L .buffer (a .0 .now)) (L .hold (a .0 .now))) $ split3 ! $ lft-new ! tt (λ ν. lft-new ! tt (λ μ. move ! (2 ∷ []) $
-      lends-bytes ! tt n (a .0 .ptr .0) (p-buffer (a .0)) (named 0) (ν ∷ []) (L .buffer (a .0 .now)) (bytes-of n (L .buffer (a .0 .now)) (L .are (a .0 .now) _ is .1 .1 .0)) (λ δ. move ! (4 ∷ []) $
-      lends-bytes ! tt n (a .0 .ptr .0) (p-hold (a .0)) (named 1) (μ ∷ []) (L .hold (a .0 .now)) (bytes-of n (L .hold (a .0 .now)) (L .are (a .0 .now) _ is .1 .1 .1 .0)) (λ ε.
-      -- [hold's reference; its lender's part; buffer's reference; its lender's part; μ's token; ν's token; the rest of the struct; the open borrow; obs; auth; _15 10; …]: what `f` asks is joined
+      use1 W (Apart 𝓤 H A W (a .0) (L .low (a .0 .now)) (L .high (a .0 .now))) (apart 𝓤 H A W (a .0) (L .low (a .0 .now)) (L .high (a .0 .now))) $ split3 ! $ lft-new ! tt (λ ν. lft-new ! tt (λ μ. move ! (2 ∷ []) $
+      lends-bytes ! tt n (a .0 .ptr .0) (p-low (a .0)) (named 0) (ν ∷ []) (L .low (a .0 .now)) (bytes-of n (L .low (a .0 .now)) (L .are (a .0 .now) _ is .1 .1 .0)) (λ δ. move ! (4 ∷ []) $
+      lends-bytes ! tt n (a .0 .ptr .0) (p-high (a .0)) (named 1) (μ ∷ []) (L .high (a .0 .now)) (bytes-of n (L .high (a .0 .now)) (L .are (a .0 .now) _ is .1 .1 .1 .0)) (λ ε.
+      -- [high's reference; its lender's part; low's reference; its lender's part; μ's token; ν's token; the rest of the struct; the open borrow; obs; auth; _15 10; …]: what `f` asks is joined
       move ! (0 ∷ 42 ∷ []) $ fjoin ! $ move ! (2 ∷ 0 ∷ []) $ fjoin ! $ held ! R _ _ (L .are (a .0 .now) _ is .1 .0) $ fjoin ! $ held ! P _ _ (L .are (a .0 .now) _ is .0) $ fjoin ! $ move ! (4 ∷ 3 ∷ 41 ∷ []) $ group ! 3 $ join ! $
       asks ! fm lend-f lend-f-says known
-      ((ν ∷ [], (μ ∷ [], κs .1)), (fullShare, (fullShare, qs .1)), tt, (L .settings (a .0 .now), (L .registers (a .0 .now), (at-bytes (a .0 .ptr .0) (p-buffer (a .0)) δ (L .buffer (a .0 .now)), (at-bytes (a .0 .ptr .0) (p-hold (a .0)) ε (L .hold (a .0 .now)), a .1)))), (P .val (L .settings (a .0 .now)) ∷ [], (R .val (L .registers (a .0 .now)) ∷ [], (vptr (a .0 .ptr .0) (p-buffer (a .0)) ∷ [], (vptr (a .0 .ptr .0) (p-hold (a .0)) ∷ [], lent 𝓤 H A (step-ps T) u32 lend-says κs qs a .4 .1)))))
+      ((ν ∷ [], (μ ∷ [], κs .1)), (fullShare, (fullShare, qs .1)), tt, (L .former (a .0 .now), (L .latter (a .0 .now), (at-bytes (a .0 .ptr .0) (p-low (a .0)) δ (L .low (a .0 .now)), (at-bytes (a .0 .ptr .0) (p-high (a .0)) ε (L .high (a .0 .now)), a .1)))), (P .val (L .former (a .0 .now)) ∷ [], (R .val (L .latter (a .0 .now)) ∷ [], (vptr (a .0 .ptr .0) (p-low (a .0)) ∷ [], (vptr (a .0 .ptr .0) (p-high (a .0)) ∷ [], lent 𝓤 H A (step-ps T) u32 lend-says κs qs a .4 .1)))))
       (id⊢ 𝓤 _)
       (and-then ! (load ! (from ! (stop !)) (look ! 23 refl)) (and-then ! (load ! (from ! (stop !)) (look ! 21 refl)) (and-then ! (load ! (from ! (stop !)) (look ! 19 refl)) (and-then ! (load ! (from ! (stop !)) (look ! 17 refl))
       (and-then ! (load ! (from ! (stop !)) (look ! 33 refl)) (and-then ! (load ! (from ! (stop !)) (look ! 13 refl)) (and-then ! (load ! (from ! (stop !)) (look ! 11 refl)) (and-then ! (load ! (from ! (stop !)) (look ! 9 refl)) (no-more !))))))))) (λ w s ws e s-is.
-      -- [what `f` hands back; hold's lender's part; buffer's; the rest of the struct; the open borrow; obs; auth; _15 7; …; _6 25; …; room for _0 37; …; what i owns]
+      -- [what `f` hands back; high's lender's part; low's; the rest of the struct; the open borrow; obs; auth; _15 7; …; _6 25; …; room for _0 37; …; what i owns]
       land ! (from ! (stop !)) (init ! 25 refl (returned-typed 𝓤 H A W s w s-is)) $ rewrite ! 25 (λ (v : Val). ‵ (fat fullShare (returned-ty S) l₆ 0 v)) (ap only (S .spells s _ s-is)) refl $
-      use1 W ((‵ (flft (ν ∷ []) fullShare) ⊛ ‵ (flft (μ ∷ []) fullShare) ⊛ step-tokens 𝓤 (κs .1) (qs .1)) ⊛ ‵ (lasts lend-f (ν ∷ [], (μ ∷ [], κs .1)) (L .settings (a .0 .now), (L .registers (a .0 .now), (at-bytes (a .0 .ptr .0) (p-buffer (a .0)) δ (L .buffer (a .0 .now)), (at-bytes (a .0 .ptr .0) (p-hold (a .0)) ε (L .hold (a .0 .now)), a .1)))) ws)) (id⊢ 𝓤 _) $ split ! $ move ! (1 ∷ []) $
+      use1 W ((‵ (flft (ν ∷ []) fullShare) ⊛ ‵ (flft (μ ∷ []) fullShare) ⊛ step-tokens 𝓤 (κs .1) (qs .1)) ⊛ ‵ (lasts lend-f (ν ∷ [], (μ ∷ [], κs .1)) (L .former (a .0 .now), (L .latter (a .0 .now), (at-bytes (a .0 .ptr .0) (p-low (a .0)) δ (L .low (a .0 .now)), (at-bytes (a .0 .ptr .0) (p-high (a .0)) ε (L .high (a .0 .now)), a .1)))) ws)) (id⊢ 𝓤 _) $ split ! $ move ! (1 ∷ []) $
       fsplit ! $ drop ! $ fsplit ! $ drop ! $ fsplit3 ! $ move ! (2 ∷ []) $ fsplit ! $ drop ! $ fsplit ! $ fsplit ! $ move ! (1 ∷ []) $ feqL ! (λ len.
-      -- [out's last list; taken's and size's; buffer's; hold's; the tokens; hold's lender's part; buffer's; the rest of the struct; …]: the lifetimes are ended, and the arrays come back
+      -- [out's last list; the two numbers'; low's; high's; the tokens; high's lender's part; low's; the rest of the struct; …]: the lifetimes are ended, and the arrays come back
       fjoin ! $ move ! (3 ∷ []) $ split3 ! $ move ! (2 ∷ 3 ∷ []) $ join ! $ use1 W (step-ends 𝓤 (κs .1) (qs .1) (a .1 .1 .0) (a .1 .1 .1 .0) (a .1 .1 .1 .1 .0) (ws .1 .1 .1 .1 .1 .0) (ws .1 .1 .1 .1 .1 .1 .0) (ws .1 .1 .1 .1 .1 .1 .1 .0)) (id⊢ 𝓤 _) $
-      move ! (1 ∷ []) $ lft-end ! tt $ move ! (0 ∷ 6 ∷ 3 ∷ []) $ bytes-back ! tt n (a .0 .ptr .0) (p-buffer (a .0)) (ws .1 .1 .0) (λ y-is.
-      -- [buffer; the tokens and the last values; μ's token; hold's; its lender's part; the rest of the struct; …]
-      move ! (2 ∷ []) $ lft-end ! tt $ move ! (0 ∷ 4 ∷ 3 ∷ []) $ bytes-back ! tt n (a .0 .ptr .0) (p-hold (a .0)) (ws .1 .1 .1 .0) (λ z-is.
-      -- [hold; buffer; the tokens and the last values; the rest of the struct; …]
+      move ! (1 ∷ []) $ lft-end ! tt $ move ! (0 ∷ 6 ∷ 3 ∷ []) $ bytes-back ! tt n (a .0 .ptr .0) (p-low (a .0)) (ws .1 .1 .0) (λ y-is.
+      -- [low; the tokens and the last values; μ's token; high's; its lender's part; the rest of the struct; …]
+      move ! (2 ∷ []) $ lft-end ! tt $ move ! (0 ∷ 4 ∷ 3 ∷ []) $ bytes-back ! tt n (a .0 .ptr .0) (p-high (a .0)) (ws .1 .1 .1 .0) (λ z-is.
+      -- [high; low; the tokens and the last values; the rest of the struct; …]
       move ! (1 ∷ 0 ∷ 3 ∷ []) $ use3 W (Cell 𝓤 H A W (a .0) (parts-with 𝓤 H A W (a .0) (ws .1 .1 .0) (ws .1 .1 .1 .0))) (again 𝓤 H A W (a .0) (ws .1 .1 .0) (ws .1 .1 .1 .0)) $
       -- [the struct's cell; the tokens and the last values; the open borrow; obs; auth; _15 5; …; _6 23; …; _1 33; …; room for _0 35; …; what i owns]
-      assigns ! (of-opd ! (load ! (from ! (fld ! refl (stop !))) (look-in ! 23 (sub ! 1 refl (whole !))))) (from ! (hop ! (look ! 33 refl) (fld ! refl (stop !)))) (store-in ! 0 (sub ! 1 refl (whole !)) (typed 𝓤 H A W R (S .registers s) _ (S .are s _ s-is .1 .0))) $
+      assigns ! (of-opd ! (load ! (from ! (fld ! refl (stop !))) (look-in ! 23 (sub ! 1 refl (whole !))))) (from ! (hop ! (look ! 33 refl) (fld ! refl (stop !)))) (store-in ! 0 (sub ! 1 refl (whole !)) (typed 𝓤 H A W R (S .latter s) _ (S .are s _ s-is .1 .0))) $
       assigns ! (of-opd ! (load ! (from ! (fld ! refl (stop !))) (look-in ! 23 (sub ! 2 refl (whole !))))) (from ! (stop !)) (init ! 5 refl (tt, tt)) $
       joins ! (load ! (from ! (stop !)) (look ! 5 refl))
-      (λ on. step (λ k. assigns-last ! (of-opd ! (load ! (from ! (fld ! refl (stop !))) (look-in ! 23 (sub ! 0 refl (whole !))))) (from ! (hop ! (look ! 33 refl) (fld ! refl (stop !)))) (store-in ! 0 (sub ! 0 refl (whole !)) (typed 𝓤 H A W P (S .settings s) _ (S .are s _ s-is .0))) $
-      rewrite ! 0 (λ (p : P .row .Denot). Cell 𝓤 H A W (a .0) (parts p (S .registers s) (ws .1 .1 .0) (ws .1 .1 .1 .0))) (chosen (S .stored s) (S .settings s) _ on) refl $ k))
-      (λ off. step (λ k. skips ! $ rewrite ! 0 (λ (p : P .row .Denot). Cell 𝓤 H A W (a .0) (parts p (S .registers s) (ws .1 .1 .0) (ws .1 .1 .1 .0))) (passed-over (S .stored s) (S .settings s) _ off) refl $ k)) $
-      assigns ! (of-opd ! (load ! (from ! (fld ! refl (stop !))) (look-in ! 23 (sub ! 3 refl (whole !))))) (from ! (stop !)) (init ! 35 refl (typed 𝓤 H A W (number w32) (S .refusal s) _ (S .are s _ s-is .1 .1 .1 .0))) $
+      (λ on. step (λ k. assigns-last ! (of-opd ! (load ! (from ! (fld ! refl (stop !))) (look-in ! 23 (sub ! 0 refl (whole !))))) (from ! (hop ! (look ! 33 refl) (fld ! refl (stop !)))) (store-in ! 0 (sub ! 0 refl (whole !)) (typed 𝓤 H A W P (S .former s) _ (S .are s _ s-is .0))) $
+      rewrite ! 0 (λ (p : P .row .Denot). Cell 𝓤 H A W (a .0) (parts p (S .latter s) (ws .1 .1 .0) (ws .1 .1 .1 .0))) (chosen (S .replaces s) (S .former s) _ on) refl $ k))
+      (λ off. step (λ k. skips ! $ rewrite ! 0 (λ (p : P .row .Denot). Cell 𝓤 H A W (a .0) (parts p (S .latter s) (ws .1 .1 .0) (ws .1 .1 .1 .0))) (passed-over (S .replaces s) (S .former s) _ off) refl $ k)) $
+      assigns ! (of-opd ! (load ! (from ! (fld ! refl (stop !))) (look-in ! 23 (sub ! 3 refl (whole !))))) (from ! (stop !)) (init ! 35 refl (typed 𝓤 H A W (number w32) (S .answer s) _ (S .are s _ s-is .1 .1 .1 .0))) $
       -- the borrow is closed at the new struct
-      use1 W (‵ (fat fullShare (rawTy T-ty) (a .0 .ptr .0) (a .0 .ptr .1) (vstruct (parts (after (a .0 .now) s) (S .registers s) (ws .1 .1 .0) (ws .1 .1 .1 .0))))) (W .laws .at-raw fullShare T-ty (a .0 .ptr .0) (a .0 .ptr .1) _) $
+      use1 W (‵ (fat fullShare (rawTy T-ty) (a .0 .ptr .0) (a .0 .ptr .1) (vstruct (parts (after (a .0 .now) s) (S .latter s) (ws .1 .1 .0) (ws .1 .1 .1 .0))))) (W .laws .at-raw fullShare T-ty (a .0 .ptr .0) (a .0 .ptr .1) _) $
       rewrite ! 0 (λ (v : Val). ‵ (fat fullShare (rawTy T-ty) (a .0 .ptr .0) (a .0 .ptr .1) v)) (made-is (a .0 .now) _ is s _ s-is _ y-is _ z-is .0) refl $ rewrite ! 0 (λ (τ : Ty). ‵ (fat fullShare (rawTy τ) (a .0 .ptr .0) (a .0 .ptr .1) (T .val (made (a .0 .now) s (ws .1 .1 .0) (ws .1 .1 .1 .0))))) (sym (L .lies)) refl $
       move ! (0 ∷ 2 ∷ 3 ∷ 4 ∷ []) $ closes-held ! tt T (a .0) (made (a .0 .now) s (ws .1 .1 .0) (ws .1 .1 .1 .0)) (made-is (a .0 .now) _ is s _ s-is _ y-is _ z-is .1) $
       -- [obs; the borrow; c's token; the tokens and the last values; _15 4; …; _0 34; …; what i owns]
       returns ! (look ! 34 refl) $ leaves ! 34 refl refl $ leaves ! 32 refl refl $ leaves ! 30 refl refl $ leaves ! 28 refl refl $ leaves ! 26 refl refl $ leaves ! 24 refl refl $ leaves ! 22 refl refl $ leaves ! 20 refl refl $
       leaves ! 18 refl refl $ leaves ! 16 refl refl $ leaves ! 14 refl refl $ leaves ! 12 refl refl $ leaves ! 10 refl refl $ leaves ! 8 refl refl $ leaves ! 6 refl refl $ leaves ! 4 refl refl $ free0 ! $
-      step-back ! T (number w32) lend-says κs qs a (made (a .0 .now) s (ws .1 .1 .0) (ws .1 .1 .1 .0)) (S .refusal s) (ws .1 .1 .1 .1 .1 .0) (ws .1 .1 .1 .1 .1 .1 .0) (ws .1 .1 .1 .1 .1 .1 .1 .0) len (follows (a .0 .now) (a .1 .0 .now) (a .1 .1 .0 .now) s _ _ _ _ _ e) (S .are s _ s-is .1 .1 .1 .0))))))))))))))))))))))))))
+      step-back ! T (number w32) lend-says κs qs a (made (a .0 .now) s (ws .1 .1 .0) (ws .1 .1 .1 .0)) (S .answer s) (ws .1 .1 .1 .1 .1 .0) (ws .1 .1 .1 .1 .1 .1 .0) (ws .1 .1 .1 .1 .1 .1 .1 .0) len (follows (a .0 .now) (a .1 .0 .now) (a .1 .1 .0 .now) s _ _ _ _ _ e) (S .are s _ s-is .1 .1 .1 .0))))))))))))))))))))))))))
 
   pub lends : {M : Type 1} (𝓤 : URA M) (H : Heap 𝓤) (𝓜 : Model 𝓤 H) (𝓖 : GhostRules 𝓤 H) (𝓡 : Running 𝓤 H 𝓜) → Proves lend-law 𝓤 H 𝓜 𝓖 𝓡
   lends = proves lend-law lend-walk

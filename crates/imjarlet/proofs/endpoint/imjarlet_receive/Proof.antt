@@ -1,4 +1,4 @@
--- `imjarlet_receive` meets its contract: it passes settings and registers and hands the arrays on in place to `step`, stores the registers of what that returns, and its settings where it says so (`lends`, of the packet layer's Lending).
+-- `imjarlet_receive` meets its contract: it passes settings and registers and hands the arrays on in place to `step`, stores the registers of what that returns, and its settings where it says so (`lends`, of the packet layer's Lending.InPlace).
 use mathlib.Core.Path.{_≡_, refl}
 use mathlib.Core.Bool.{cond}
 use denote.Struct.Laws.{tells, owed, owes}
@@ -31,10 +31,10 @@ the-call =
       L =
           record {
             name = T.struct .name;
-            settings = λ c. c .settings;
-            registers = λ c. c .registers;
-            buffer = λ c. c .buffer;
-            hold = λ c. c .hold;
+            former = λ c. c .settings;
+            latter = λ c. c .registers;
+            low = λ c. c .buffer;
+            high = λ c. c .hold;
             of = controllerOf;
             lies = refl;
             spells = tells T.the-type T′.the-laws;
@@ -45,10 +45,10 @@ the-call =
           record {
             row = S.the-row;
             name = S.struct .name;
-            settings = λ s. s .settings;
-            registers = λ s. s .registers;
-            stored = λ s. s .stored;
-            refusal = λ s. s .refusal;
+            former = λ s. s .settings;
+            latter = λ s. s .registers;
+            replaces = λ s. s .stored;
+            answer = λ s. s .refusal;
             spells = tells S.the-type S′.the-laws;
             are = owed S.the-type S′.the-laws;
           };
