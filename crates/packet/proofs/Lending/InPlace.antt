@@ -34,9 +34,9 @@ use denote.Signature.{plain, typesAt, mutRefTo}
 use denote.Signature.Array.{arrayOf}
 use denote.Steps.{only, nothing}
 use denote.Struct.Struct.{as-fields}
-use denote.Triple.Clauses.{Ended, lasts}
+use denote.Triple.Clauses.{Ended}
 use Rattle.packet.proofs.Cases.{cond-cases}
-use Rattle.packet.proofs.Lending.{Held, number, slice, at, span, input, output, count, slots, ended, Fact, lent, Law, Walks, code-of, Proves, proves, typed, room, held, opens-held, closes-held, asks, leaves, step-ps, step-tokens, step-ends, step-lent, step-back}
+use Rattle.packet.proofs.Lending.{Held, number, slice, at, span, input, output, count, slots, ended, Fact, lent, Law, Walks, code-of, Proves, proves, typed, room, held, opens-held, closes-held, arg, asks, leaves, step-ps, step-tokens, step-ends, step-lent, step-back}
 use Rattle.packet.proofs.Lending.Arrays.{Bytes, bytes-ty, each-of, bytes-val, at-bytes, bytes-of, of-bytes, lends-bytes, bytes-back}
 
 -- ---- a branch whose two ways meet, so that what is left runs once
@@ -265,7 +265,7 @@ module _ (c : Lend) where
       assigns ! (addr ! (from ! (hop ! (look ! 32 refl) (fld ! at-2 (stop !))))) (from ! (stop !)) (init ! 16 refl (tt, tt)) $
       assigns ! (addr ! (from ! (hop ! (look ! 32 refl) (fld ! at-3 (stop !))))) (from ! (stop !)) (init ! 14 refl (tt, tt)) $
       assigns ! (addr ! (from ! (fld ! refl (hop ! (look-in ! 28 (sub ! 0 refl (whole !))) (stop !))))) (from ! (stop !)) (init ! 12 refl (tt, tt)) $
-      assigns ! (agg ! (and-then ! (load ! (from ! (stop !)) (look ! 12 refl)) (and-then ! (load ! (from ! (fld ! refl (stop !))) (look-in ! 28 (sub ! 1 refl (whole !)))) (no-more !)))) (from ! (stop !)) (init ! 10 refl (room (a .1 .1 .0) (are .1 .1 .0 .0 .1))) $
+      assigns ! (agg ! (arg ! 12 refl (and-then ! (load ! (from ! (fld ! refl (stop !))) (look-in ! 28 (sub ! 1 refl (whole !)))) (no-more !)))) (from ! (stop !)) (init ! 10 refl (room (a .1 .1 .0) (are .1 .1 .0 .0 .1))) $
       assigns ! (addr ! (from ! (hop ! (look ! 26 refl) (stop !)))) (from ! (stop !)) (init ! 8 refl (tt, tt)) $ assigns ! (addr ! (from ! (hop ! (look ! 24 refl) (stop !)))) (from ! (stop !)) (init ! 6 refl (tt, tt)) $
       -- the arrays' cells are taken out and lent
       use1 W (Apart 𝓤 H A W (a .0) (L .low (a .0 .now)) (L .high (a .0 .now))) (apart 𝓤 H A W (a .0) (L .low (a .0 .now)) (L .high (a .0 .now))) $ split3 ! $ lft-new ! tt (λ ν. lft-new ! tt (λ μ. move ! (2 ∷ []) $
@@ -275,12 +275,10 @@ module _ (c : Lend) where
       move ! (0 ∷ 42 ∷ []) $ fjoin ! $ move ! (2 ∷ 0 ∷ []) $ fjoin ! $ held ! R _ _ (L .are (a .0 .now) _ is .1 .0) $ fjoin ! $ held ! P _ _ (L .are (a .0 .now) _ is .0) $ fjoin ! $ move ! (4 ∷ 3 ∷ 41 ∷ []) $ group ! 3 $ join ! $
       asks ! fm lend-f lend-f-says known
       ((ν ∷ [], (μ ∷ [], κs .1)), (fullShare, (fullShare, qs .1)), tt, (L .former (a .0 .now), (L .latter (a .0 .now), (at-bytes (a .0 .ptr .0) (p-low (a .0)) δ (L .low (a .0 .now)), (at-bytes (a .0 .ptr .0) (p-high (a .0)) ε (L .high (a .0 .now)), a .1)))), (P .val (L .former (a .0 .now)) ∷ [], (R .val (L .latter (a .0 .now)) ∷ [], (vptr (a .0 .ptr .0) (p-low (a .0)) ∷ [], (vptr (a .0 .ptr .0) (p-high (a .0)) ∷ [], lent 𝓤 H A (step-ps T) u32 lend-says κs qs a .4 .1)))))
-      (id⊢ 𝓤 _)
-      (and-then ! (load ! (from ! (stop !)) (look ! 23 refl)) (and-then ! (load ! (from ! (stop !)) (look ! 21 refl)) (and-then ! (load ! (from ! (stop !)) (look ! 19 refl)) (and-then ! (load ! (from ! (stop !)) (look ! 17 refl))
-      (and-then ! (load ! (from ! (stop !)) (look ! 33 refl)) (and-then ! (load ! (from ! (stop !)) (look ! 13 refl)) (and-then ! (load ! (from ! (stop !)) (look ! 11 refl)) (and-then ! (load ! (from ! (stop !)) (look ! 9 refl)) (no-more !))))))))) (λ w s ws e s-is.
+      (id⊢ 𝓤 _) (arg ! 23 refl (arg ! 21 refl (arg ! 19 refl (arg ! 17 refl (arg ! 33 refl (arg ! 13 refl (arg ! 11 refl (arg ! 9 refl (no-more !))))))))) (λ w s ws e s-is.
       -- [what `f` hands back; high's lender's part; low's; the rest of the struct; the open borrow; obs; auth; _15 7; …; _6 25; …; room for _0 37; …; what i owns]
       land ! (from ! (stop !)) (init ! 25 refl (returned-typed 𝓤 H A W s w s-is)) $ rewrite ! 25 (λ (v : Val). ‵ (fat fullShare (returned-ty S) l₆ 0 v)) (ap only (S .spells s _ s-is)) refl $
-      use1 W ((‵ (flft (ν ∷ []) fullShare) ⊛ ‵ (flft (μ ∷ []) fullShare) ⊛ step-tokens 𝓤 (κs .1) (qs .1)) ⊛ ‵ (lasts lend-f (ν ∷ [], (μ ∷ [], κs .1)) (L .former (a .0 .now), (L .latter (a .0 .now), (at-bytes (a .0 .ptr .0) (p-low (a .0)) δ (L .low (a .0 .now)), (at-bytes (a .0 .ptr .0) (p-high (a .0)) ε (L .high (a .0 .now)), a .1)))) ws)) (id⊢ 𝓤 _) $ split ! $ move ! (1 ∷ []) $
+      split ! $ use1 W (‵ (flft (ν ∷ []) fullShare) ⊛ ‵ (flft (μ ∷ []) fullShare) ⊛ step-tokens 𝓤 (κs .1) (qs .1)) (id⊢ 𝓤 _) $ move ! (1 ∷ []) $
       fsplit ! $ drop ! $ fsplit ! $ drop ! $ fsplit3 ! $ move ! (2 ∷ []) $ fsplit ! $ drop ! $ fsplit ! $ fsplit ! $ move ! (1 ∷ []) $ feqL ! (λ len.
       -- [out's last list; the two numbers'; low's; high's; the tokens; high's lender's part; low's; the rest of the struct; …]: the lifetimes are ended, and the arrays come back
       fjoin ! $ move ! (3 ∷ []) $ split3 ! $ move ! (2 ∷ 3 ∷ []) $ join ! $ use1 W (step-ends 𝓤 (κs .1) (qs .1) (a .1 .1 .0) (a .1 .1 .1 .0) (a .1 .1 .1 .1 .0) (ws .1 .1 .1 .1 .1 .0) (ws .1 .1 .1 .1 .1 .1 .0) (ws .1 .1 .1 .1 .1 .1 .1 .0)) (id⊢ 𝓤 _) $
