@@ -500,7 +500,7 @@ fn stack_of_report(report: &[u8]) -> usize {
 }
 
 fn sizes() {
-    let cycle = mix().concat();
+    let cycle = mix(&LAST_PAIR).concat();
     let transfer = [packet(2, [1, 3], 1, &[]), packet(2, [1, 3], 3, &[5])].concat();
     let faulty = packet(0, [9, 9], 7, &payload(1025));
     let receive = [
