@@ -7,20 +7,8 @@
 #include <stdio.h>
 #include <string.h>
 
+#include "../layout/checks.h"
 #include "layout.h"
-
-static unsigned checks, failures;
-
-static void check(int holds, const char *what) {
-    checks++;
-    if (!holds) {
-        failures++;
-        fprintf(stderr, "failed: %s\n", what);
-    }
-}
-
-/* What is lent to be filled lies between strips of bytes that nothing may touch. */
-enum { STRIP = 0xA5, BEFORE = 0xEE };
 
 static struct {
     uint32_t before[4];
@@ -35,13 +23,6 @@ static struct {
 static const dlpc200_states told = {0, 1, 0, 7, 1};
 static uint8_t out[DLPC200_OUTPUT_LEAST];
 static uint8_t packet[70000];
-
-static int all(const void *bytes, uint8_t byte, size_t n) {
-    const uint8_t *b = (const uint8_t *)bytes;
-    while (n > 0)
-        if (b[--n] != byte) return 0;
-    return 1;
-}
 
 static int is_fresh(const dlpc200_device *d, dlpc200_states states) {
     dlpc200_device f;

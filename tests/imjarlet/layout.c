@@ -8,6 +8,7 @@
 #include <stdio.h>
 #include <string.h>
 
+#include "../layout/checks.h"
 #include "layout.h"
 
 #define PRINT_SIZE(type, n) printf("%s %zu\n", #type, sizeof(imjarlet_##type));
@@ -15,19 +16,6 @@
 
 typedef imjarlet_controller controller;
 typedef imjarlet_settings settings;
-
-static unsigned checks, failures;
-
-static void check(int holds, const char *what) {
-    checks++;
-    if (!holds) {
-        failures++;
-        fprintf(stderr, "failed: %s\n", what);
-    }
-}
-
-/* What is lent to be filled lies between strips of bytes that nothing may touch. */
-enum { STRIP = 0xA5, BEFORE = 0xEE };
 
 static struct {
     uint8_t before[64];
@@ -44,13 +32,6 @@ static struct {
 static uint8_t out[64];
 static uint8_t packet[70000];
 static uint8_t report[70000];
-
-static int all(const void *bytes, uint8_t byte, size_t n) {
-    const uint8_t *b = (const uint8_t *)bytes;
-    while (n > 0)
-        if (b[--n] != byte) return 0;
-    return 1;
-}
 
 static int strips_untouched(void) {
     return all(box.before, STRIP, sizeof box.before) && all(box.between, STRIP, sizeof box.between) &&

@@ -2,13 +2,9 @@
  * Every size and offset of include/imjarlet.h, asserted when this is compiled: also for a target on
  * which nothing can be run, by
  *     cc -std=c99 -ffreestanding -fsyntax-only -Iinclude -x c tests/imjarlet/layout.h
- * That a type has no padding is its size equal to the sum of its fields' sizes, which with the offsets
- * also fixes how wide each field is.
  */
 #ifndef IMJARLET_LAYOUT_H
 #define IMJARLET_LAYOUT_H
-
-#include <stddef.h>
 
 #include "imjarlet.h"
 
@@ -43,18 +39,7 @@
     TYPE(verdict, 80) FIELD(verdict, place, 0) FIELD(verdict, trial, 8) FIELD(verdict, score, 16)  \
     FIELD(verdict, settings, 24) END()
 
-#define NOTHING()
-
-#define SIZE_HOLDS(type, n) typedef char size_of_##type[sizeof(imjarlet_##type) == (n) ? 1 : -1];
-#define OFFSET_HOLDS(type, field, n) \
-    typedef char offset_of_##type##_##field[offsetof(imjarlet_##type, field) == (n) ? 1 : -1];
-LAYOUT(SIZE_HOLDS, OFFSET_HOLDS, NOTHING)
-
-#define FILLED(type, n) typedef char filled_##type[sizeof(imjarlet_##type) == 0
-#define BY(type, field, n) +sizeof(((imjarlet_##type *)0)->field)
-#define ALONE() ? 1 : -1];
-LAYOUT(FILLED, BY, ALONE)
-
-typedef char size_of_size[sizeof(imjarlet_size) == 8 ? 1 : -1];
+#define OF(type) imjarlet_##type
+#include "../layout/asserts.h"
 
 #endif
