@@ -113,12 +113,14 @@ fn video_mode(q: VideoMode) -> bool
         & ((1 <= q.led) & (q.led <= 4))
 }
 
-// 04 00: inversion, and trigger 6, only at depth 1.
+// 04 00: at most 1 + 95 / depth patterns, said by a product: some processors cannot divide. Inversion, and trigger 6, only at depth 1.
 fn pattern_sequence(q: PatternSequence) -> bool
     ensures { λ r. ⌜ r ≡ allowedIn command.PatternSequence (sequenceValues q) ⌝ }
 {
+    let depth = q.depth as u32;
+    let count = q.count as u32;
     ((1 <= q.depth) & (q.depth <= 8))
-        & ((1 <= q.count) & (q.count <= 96))
+        & ((1 <= q.count) & (count * depth <= 95 + depth))
         & ((q.inversion <= 2) & ((q.inversion == 0) | (q.depth == 1)))
         & ((q.trigger <= 6) & ((q.trigger != 6) | (q.depth == 1)))
         & (q.led <= 2)
