@@ -1,4 +1,4 @@
--- Examples about the rules: document 01's starred packets and reports, each row of the table at its limits, and each fault alone. Packets go to a fresh factory head.
+-- Examples about the rules: document 01's starred packets and reports, each row of the table at its limits, request 2's counts, and each fault alone. Packets go to a fresh factory head.
 use Prim.Native.Nat.{ℕ}
 use Prim.Native.String.{String}
 use mathlib.Core.Bool.{Bool, true, false, not, _&&_}
@@ -128,7 +128,7 @@ rows =
     ∷ Forbids VideoMode (60 ∷ 8 ∷ 0 ∷ [])
     ∷ Forbids VideoMode (60 ∷ 8 ∷ 5 ∷ [])
     ∷ Allows PatternSequence (1 ∷ 1 ∷ 0 ∷ 0 ∷ 0 ∷ 0 ∷ 0 ∷ 0 ∷ [])
-    ∷ Allows PatternSequence (8 ∷ 96 ∷ 0 ∷ 5 ∷ 4294967295 ∷ 4294967295 ∷ 4294967295 ∷ 2 ∷ [])
+    ∷ Allows PatternSequence (8 ∷ 12 ∷ 0 ∷ 5 ∷ 4294967295 ∷ 4294967295 ∷ 4294967295 ∷ 2 ∷ [])
     ∷ Allows PatternSequence (1 ∷ 96 ∷ 2 ∷ 6 ∷ 0 ∷ 0 ∷ 0 ∷ 2 ∷ [])
     ∷ Forbids PatternSequence (0 ∷ 1 ∷ 0 ∷ 0 ∷ 0 ∷ 0 ∷ 0 ∷ 0 ∷ [])
     ∷ Forbids PatternSequence (9 ∷ 1 ∷ 0 ∷ 0 ∷ 0 ∷ 0 ∷ 0 ∷ 0 ∷ [])
@@ -197,6 +197,67 @@ acknowledgements =
     ∷ Cleans ((0x02 ∷ 0x01 ∷ 0x03 ∷ 0x00 ∷ 0x01 ∷ 0x00 ∷ 0x05 ∷ 0x0C ∷ []) ++ (2 ∷ [])) false
     ∷ []
 
+-- Request 2: the count of a sequence. Its values at this depth and count, all else 0,
+abbrev pub sequenceOf : ℕ → ℕ → List ℕ
+sequenceOf depth count = depth ∷ count ∷ replicate 6 0
+
+-- and the packet that writes them, with this checksum
+abbrev pub sequencePacket : ℕ → ℕ → ℕ → List ℕ
+sequencePacket depth count sum = (0x02 ∷ 0x04 ∷ 0x00 ∷ 0x00 ∷ 0x11 ∷ 0x00 ∷ []) ++ (depth ∷ count ∷ replicate 15 0) ++ (sum ∷ [])
+
+-- a report of one trial, which sent 40 patterns at depth 4, up to what ships
+abbrev pub fortyTried : List ℕ
+fortyTried =
+    (0x04 ∷ 0x00 ∷ 0x01 ∷ 0x00 ∷ 0x01 ∷ 0x00 ∷ 0x01 ∷ 0x00 ∷ []) ++ (0x1C ∷ 0x00 ∷ 0x02 ∷ 0x00 ∷ 0x05 ∷ 0x00 ∷ 0x00 ∷ 0x00 ∷ []) ++ sequencePacket 4 40 0x43
+    ++ (0x02 ∷ 0x00 ∷ 0x03 ∷ 0x00 ∷ 0x00 ∷ 0x00 ∷ [])
+
+abbrev pub counts : List Example
+counts =
+    -- each depth at its limit and one past it; no depth, and one too many, at any count; no pattern
+    Allows PatternSequence (sequenceOf 1 96)
+    ∷ Forbids PatternSequence (sequenceOf 1 97)
+    ∷ Allows PatternSequence (sequenceOf 2 48)
+    ∷ Forbids PatternSequence (sequenceOf 2 49)
+    ∷ Allows PatternSequence (sequenceOf 3 32)
+    ∷ Forbids PatternSequence (sequenceOf 3 33)
+    ∷ Allows PatternSequence (sequenceOf 4 24)
+    ∷ Forbids PatternSequence (sequenceOf 4 25)
+    ∷ Allows PatternSequence (sequenceOf 5 20)
+    ∷ Forbids PatternSequence (sequenceOf 5 21)
+    ∷ Allows PatternSequence (sequenceOf 6 16)
+    ∷ Forbids PatternSequence (sequenceOf 6 17)
+    ∷ Allows PatternSequence (sequenceOf 7 14)
+    ∷ Forbids PatternSequence (sequenceOf 7 15)
+    ∷ Allows PatternSequence (sequenceOf 8 12)
+    ∷ Forbids PatternSequence (sequenceOf 8 13)
+    ∷ Forbids PatternSequence (sequenceOf 0 1)
+    ∷ Forbids PatternSequence (sequenceOf 0 0)
+    ∷ Forbids PatternSequence (sequenceOf 0 96)
+    ∷ Forbids PatternSequence (sequenceOf 0 255)
+    ∷ Forbids PatternSequence (sequenceOf 9 1)
+    ∷ Forbids PatternSequence (sequenceOf 9 11)
+    ∷ Forbids PatternSequence (sequenceOf 255 1)
+    ∷ Forbids PatternSequence (sequenceOf 1 0)
+    ∷ Forbids PatternSequence (sequenceOf 8 0)
+    -- 40 patterns at depth 4 draw 03, 24 are stored; in a transfer alike
+    ∷ Answers (sequencePacket 4 40 0x43) (0x01 ∷ 0x04 ∷ 0x00 ∷ 0x00 ∷ 0x01 ∷ 0x00 ∷ 0x03 ∷ 0x09 ∷ [])
+    ∷ Leaves (sequencePacket 4 40 0x43) PatternSequence (sequenceOf 1 1)
+    ∷ Answers (sequencePacket 4 24 0x33) (0x03 ∷ 0x04 ∷ 0x00 ∷ 0x00 ∷ 0x00 ∷ 0x00 ∷ 0x07 ∷ [])
+    ∷ Leaves (sequencePacket 4 24 0x33) PatternSequence (sequenceOf 4 24)
+    ∷ Draws
+    ((0x02 ∷ 0x04 ∷ 0x00 ∷ 0x01 ∷ 0x01 ∷ 0x00 ∷ 0x04 ∷ 0x0C ∷ []) ∷ ((0x02 ∷ 0x04 ∷ 0x00 ∷ 0x03 ∷ 0x10 ∷ 0x00 ∷ 40 ∷ replicate 15 0) ++ (0x41 ∷ [])) ∷ [])
+    (3 ∷ [])
+    ∷ Draws
+    ((0x02 ∷ 0x04 ∷ 0x00 ∷ 0x01 ∷ 0x01 ∷ 0x00 ∷ 0x04 ∷ 0x0C ∷ []) ∷ ((0x02 ∷ 0x04 ∷ 0x00 ∷ 0x03 ∷ 0x10 ∷ 0x00 ∷ 24 ∷ replicate 15 0) ++ (0x31 ∷ [])) ∷ [])
+    []
+    -- a depth of 0 draws 03 whatever the count
+    ∷ Draws (sequencePacket 0 1 0x18 ∷ []) (3 ∷ [])
+    ∷ Draws (sequencePacket 0 40 0x3F ∷ []) (3 ∷ [])
+    -- reports of version 1: the trial's packet was not stored, so that nothing needs to ship; shipped, it is not acknowledged
+    ∷ Prints (fortyTried ++ (0x00 ∷ 0x00 ∷ 0x04 ∷ 0x00 ∷ [])) "accepted trial 0 score 5\n"
+    ∷ Prints (fortyTried ++ (0x18 ∷ 0x00 ∷ 0x04 ∷ 0x00 ∷ []) ++ sequencePacket 4 40 0x43) "refused 18 at 46\n"
+    ∷ []
+
 -- the table
 abbrev pub examples : List Example
-examples = starred ++ (reports ++ (rows ++ (faultsAlone ++ (transfers ++ acknowledgements))))
+examples = starred ++ (reports ++ (rows ++ (counts ++ (faultsAlone ++ (transfers ++ acknowledgements)))))
