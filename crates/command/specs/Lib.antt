@@ -17,6 +17,7 @@ pub mod Encoder
 pub mod Sending
 pub mod Demand1
 pub mod Demand2
+pub mod Request2
 pub mod Lent
 pub mod Inner
 pub mod Computing

@@ -106,7 +106,8 @@ module _ {S E : Type 0} (call : S → List ℕ → Call S E) (I : S → Type 0) 
       ∙ ap (λ (r : Served S E). andThen (some e) s′ r) (rest ∙ join-calls n s′ (drop k a) b i′ (omega arith))
       ∙ sym (ap (λ (r : Served S E). followed r (callsOn call (suc (length b)) (r .state) b)) one))
 
-  keeps-calls : (n : ℕ) (s : S) (b : List ℕ) → I s → I (callsOn call n s b .state)
+  -- what each call keeps, some calls keep
+  pub keeps-calls : (n : ℕ) (s : S) (b : List ℕ) → I s → I (callsOn call n s b .state)
   unfolding callsOn
   keeps-calls zero s b i = i
   keeps-calls (suc n) s b i =

@@ -146,7 +146,7 @@ trial-bytes (t ∷ ts) left h =
     (bytes-parts (bytesOf 4 (t .score)) (t .bytes) body .1, trial-bytes ts [] (rw append-nil (i .1)))
 
 -- whatever the trials sent, the settings keep the rules, and their values fit
-kept-end : (s : Settings) (ts : List Trial) (k : ℕ) → Kept s → Kept (endFrom s ts k)
+pub kept-end : (s : Settings) (ts : List Trial) (k : ℕ) → Kept s → Kept (endFrom s ts k)
 unfolding endFrom
 kept-end s [] k h = h
 kept-end s (t ∷ ts) zero h = kept-play s (t .bytes) h

@@ -5,5 +5,6 @@ pub mod Claim
 pub mod Refusals
 pub mod Verdict
 pub mod Line
+pub mod Request2
 pub mod Examples
 pub mod Inner

@@ -1,6 +1,6 @@
 -- The receive call on a head that is in rule: it stays in rule, and cutting a stream changes nothing.
-use Prim.Native.Nat.{ℕ, _+_, _-_, _<_, _≤_, max}
-use mathlib.Core.Path.{_≡_, refl, ap, sym, _∙_}
+use Prim.Native.Nat.{ℕ, suc, _+_, _-_, _<_, _≤_, max}
+use mathlib.Core.Path.{_≡_, refl, ap, sym, subst, _∙_}
 use mathlib.Core.Bool.{Bool, true, false, cond}
 use mathlib.Core.List.{List, [], _∷_, _++_}
 use mathlib.Core.Option.{none, some}
@@ -9,12 +9,12 @@ use lib.Dec.{ltb}
 use lib.ListN.{length, take, length-take, drop}
 use lib.Seq.{sets, length-sets, take-at}
 use borrow.Author.Tests.{lt-ltb, le-ltb, ltb-true}
-use Rattle.packet.specs.Calls.{servedOne}
+use Rattle.packet.specs.Calls.{Served, servedOne}
 use Rattle.packet.specs.Packet.{payloadLength}
 use Rattle.packet.specs.Receiver.{Receiver, Received, with, missing, waiting as receiverWaiting, completed, packetInRule}
 use Rattle.packet.specs.Writer.{written}
 use Rattle.packet.proofs.Cases.{lt-cases, cond-cases}
-use Rattle.packet.proofs.Calls.{Streaming, shifted, AnyOutput, at-once as sent-at-once}
+use Rattle.packet.proofs.Calls.{Streaming, shifted, keeps-calls, AnyOutput, at-once as sent-at-once}
 use Rattle.packet.proofs.ReceiverLaws.{with-nil, hold-length, missing-least, after, cut, behind, waits, completes}
 use Rattle.command.specs.Transfer.{held}
 use Rattle.command.specs.Judgement.{judge}
@@ -215,3 +215,12 @@ any-output =
 -- However the byte stream was cut, it is as if it came at once.
 pub at-once : (out : List ℕ) → 64 ≤ length out → (c : Controller) (b : List ℕ) (s : Sending b) → Ready c → sentTo c s ≡ servedOne (serves out) c b
 at-once = sent-at-once serves Ready 64 any-output
+
+-- and a head in rule stays so
+pub sent-in-rule : (c : Controller) (b : List ℕ) (s : Sending b) → Ready c → Ready (sentTo c s .state)
+unfolding servedOne
+sent-in-rule c b s k =
+    let out = s .outs 0 in
+    let l = s .room 0 in
+    subst (λ (r : Served Controller (List ℕ)). Ready (r .state)) (sym (at-once out l c b s k))
+    (keeps-calls (serves out) Ready (endpoint-streams out l) (suc (length b)) c b k)

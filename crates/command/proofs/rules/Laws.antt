@@ -12,7 +12,7 @@ use lib.ListN.{length, getD}
 use Rattle.packet.proofs.Cases.{bool-cases, cond-cases, and-left, and-right, and-both}
 use Rattle.command.specs.Data.{Fit}
 use Rattle.command.specs.Table.{table, cmd1For, cmd2For, find, commandOf, same, layout}
-use Rattle.command.specs.Rules.{within, mostPatterns, allowed, blocked, allAllowed, settingsInRule}
+use Rattle.command.specs.Rules.{mostPatterns, allowed, blocked, allAllowed, settingsInRule}
 use Rattle.command.specs.Settings.{valuesOf, factory, valuesAfter, store}
 use Rattle.command.specs.Value.{widths}
 use Rattle.command.specs.declared.settings.Settings.{Settings}

@@ -1,0 +1,96 @@
+-- Request 2, proved: the row of 04 00, and what cites it.
+use Prim.Native.Nat.{ℕ, _<_, _≤_}
+use mathlib.Core.Path.{_≡_, refl, sym, subst, _∙_}
+use mathlib.Core.Bool.{Bool, true, false, _&&_, and-true, and-false}
+use mathlib.Core.List.{List, [], _∷_}
+use native.Mathlib.Omega.{arith}
+use lib.Dec.{leb}
+use lib.ListN.{length, getD}
+use borrow.Author.Tests.{le-ltb, le-leb, lt-leb, leb-true, leb-false}
+use Rattle.packet.proofs.Cases.{bool-cases}
+use Rattle.command.specs.Fields.{sequenceValues}
+use Rattle.command.specs.Settings.{valuesOf}
+use Rattle.command.specs.Table.{layout}
+use Rattle.command.specs.Rules.{within, mostPatterns, allowed, settingsInRule}
+use Rattle.command.specs.Data.{splitAll}
+use Rattle.command.specs.Faults.{Arrived}
+use Rattle.command.specs.Player.{State}
+use Rattle.command.specs.Controller.{partsInRule}
+use Rattle.command.specs.Endpoint.{receiveCall, refused}
+use Rattle.command.specs.Encoder.{encodeCall, listCall}
+use Rattle.command.specs.Encoder as encoder
+use Rattle.command.specs.Sending.{Sending, sentTo, Ready}
+use Rattle.command.specs.Demand1.{ValueNotAllowed, Alone, joinedData, SettingNotAllowed, DrawsOn}
+use Rattle.command.specs.Request2.{TooMany, ShownWhole, Asks, Request2}
+use Rattle.command.specs.declared.table.Command.the-variants.{PatternSequence}
+use Rattle.command.specs.declared.settings.Settings.{Settings}
+use Rattle.command.specs.declared.settings.PatternSequence.{PatternSequence as Sequence}
+use Rattle.command.specs.declared.value.Value.the-variants as value
+use Rattle.command.specs.declared.controller.Controller.{Controller}
+use Rattle.command.proofs.rules.Laws.{most-numbered, kept-by, Kept}
+use Rattle.command.proofs.faults.Laws.{never}
+use Rattle.command.proofs.controller.Laws.{rule-parts}
+use Rattle.command.proofs.endpoint.Laws.{sent-in-rule}
+use Rattle.command.proofs.Refusals.{settings-out}
+use Rattle.command.proofs.Demand1.{demand1}
+
+-- one test among five, moved to their end
+moved : (d c i t l : Bool) → (d && c && i && t && l) ≡ (d && true && i && t && l && c)
+moved d true i t l = simp and-true
+moved d false i t l = simp and-false
+
+count-alone : (depth count : ℕ) (others : List ℕ)
+    → allowed PatternSequence (depth ∷ count ∷ others) ≡ allowed PatternSequence (depth ∷ 1 ∷ others) && within 1 (mostPatterns depth) count
+count-alone depth count others = rw (le-leb 1 (mostPatterns depth) (omega arith)) (moved (within 1 8 depth) (within 1 (mostPatterns depth) count) _ _ _)
+
+-- a larger count is not allowed
+too-many : (v : List ℕ) → mostPatterns (getD v 0 0) < getD v 1 0 → allowed PatternSequence v ≡ false
+too-many v h = simp (lt-leb (getD v 1 0) (mostPatterns (getD v 0 0)) h, and-false)
+
+out-of-rule : (s : Settings) → TooMany (s .sequence) → settingsInRule s ≡ false
+out-of-rule s h = settings-out s .1 (SettingNotAllowed PatternSequence (too-many (valuesOf PatternSequence s) h))
+
+-- settings in rule have no more than are shown
+pub shown-whole : (s : Settings) → Kept s → ShownWhole (s .sequence)
+shown-whole s k =
+    let q = s .sequence in
+    bool-cases (leb (q .count) (mostPatterns (q .depth))) (leb-true (q .count) (mostPatterns (q .depth)))
+    (λ e. never (sym (too-many (valuesOf PatternSequence s) (leb-false (q .count) (mostPatterns (q .depth)) e)) ∙ k .values PatternSequence))
+
+draws-value : (a : State) (p : Arrived) (q : Sequence) → Asks a p q → TooMany q → DrawsOn a p (0x03 ∷ [])
+draws-value a p q k h =
+    Alone 0x03 (k .first) (k .completes)
+    (ValueNotAllowed PatternSequence (k .write) (k .names) (k .size)
+    (too-many (splitAll (layout PatternSequence) (joinedData (a .transfer) p)) (subst TooMany (sym (k .sequence)) h)))
+
+head-shows : (c : Controller) (b : List ℕ) (s : Sending b) → Ready c → ShownWhole (sentTo c s .state .settings .sequence)
+head-shows c b s k =
+    let r = sentTo c s .state in
+    shown-whole (r .settings) (kept-by (r .settings) (rule-parts (r .settings) (r .registers) (sent-in-rule c b s k .rule) .settings))
+
+receive-refused : (c : Controller) (input out : List ℕ) → 64 ≤ length out → TooMany (c .settings .sequence) → receiveCall c input out ≡ refused 3 c out
+unfolding receiveCall partsInRule
+receive-refused c input out l h = rw (le-ltb (length out) 64 l, out-of-rule (c .settings) h)
+
+list-refused : (s : Settings) (out : List ℕ) → 128 ≤ length out → TooMany (s .sequence) → listCall s out ≡ encoder.refused 3 out
+unfolding listCall
+list-refused s out l h = rw (le-ltb (length out) 128 l, out-of-rule s h)
+
+encode-refused : (q : Sequence) (out : List ℕ) → 64 ≤ length out → TooMany q → encodeCall (value.PatternSequence q) out ≡ encoder.refused 2 out
+unfolding encodeCall
+encode-refused q out l h = rw (le-ltb (length out) 64 l, too-many (sequenceValues q) h)
+
+pub request-2 : Request2
+request-2 =
+    record {
+      limits = refl;
+      numbered = most-numbered;
+      counts = count-alone;
+      noDepth = λ _ _. refl;
+      draws = draws-value;
+      heads = head-shows;
+      receive = receive-refused;
+      list = list-refused;
+      play = λ s b h. demand1 .play s b (settings-out s .0 (out-of-rule s h));
+      encode = encode-refused;
+    }

@@ -1,0 +1,62 @@
+-- Request 2: "04 00 may ask for at most 1 plus the whole part of 95/depth. Settings, refusal 3, the encoder and the report checker follow the new rule, for old reports
+-- too. Refusals: 03 for a larger count, in its old place." Of reports it is crates/report/specs/Request2.antt.
+use Prim.Native.Nat.{ℕ, _*_, _<_, _≤_}
+use mathlib.Core.Path.{_≡_}
+use mathlib.Core.Logic.{_↔_}
+use mathlib.Core.Bool.{false, _&&_}
+use mathlib.Core.List.{List, [], _∷_, map}
+use lib.ListN.{length}
+use Rattle.packet.specs.Packet.{hostWrite}
+use Rattle.command.specs.Table.{layout, sizeOf}
+use Rattle.command.specs.Fields.{sequenceFrom}
+use Rattle.command.specs.Rules.{within, mostPatterns, allowed}
+use Rattle.command.specs.Data.{splitAll}
+use Rattle.command.specs.Faults.{Arrived}
+use Rattle.command.specs.Player.{State, endSettings, endClean}
+use Rattle.command.specs.Endpoint.{receiveCall, refused}
+use Rattle.command.specs.Encoder.{encodeCall, listCall}
+use Rattle.command.specs.Encoder as encoder
+use Rattle.command.specs.Sending.{Sending, sentTo, Ready}
+use Rattle.command.specs.Demand1.{Names, Completes, FirstFault, joinedData, DrawsOn}
+use Rattle.command.specs.declared.table.Command.the-variants.{PatternSequence}
+use Rattle.command.specs.declared.settings.Settings.{Settings}
+use Rattle.command.specs.declared.settings.PatternSequence.{PatternSequence as Sequence}
+use Rattle.command.specs.declared.value.Value.the-variants as value
+use Rattle.command.specs.declared.controller.Controller.{Controller}
+
+-- a sequence of more patterns than its depth has, and one that the head shows whole
+abbrev pub TooMany : Sequence → Type 0
+TooMany q = mostPatterns (q .depth) < q .count
+
+abbrev pub ShownWhole : Sequence → Type 0
+ShownWhole q = q .count ≤ mostPatterns (q .depth)
+
+-- The packet p comes to the head a and completes a write of this sequence, in one packet or as the last of a transfer: no code comes before 03.
+pub record Asks (a : State) (p : Arrived) (q : Sequence) : Type 0 where
+  pub first : (n : ℕ) → FirstFault (a .transfer) p n → ⊥
+  pub completes : Completes (p .flags)
+  pub write : p .type ≡ hostWrite
+  pub names : Names (p .cmd1) (p .cmd2) PatternSequence
+  pub size : length (joinedData (a .transfer) p) ≡ sizeOf PatternSequence
+  pub sequence : sequenceFrom (splitAll (layout PatternSequence) (joinedData (a .transfer) p)) ≡ q
+
+pub record Request2 : Type 0 where
+  -- "at most 1 plus the whole part of 95/depth", for the depths 1 to 8
+  pub limits : map mostPatterns (1 ∷ 2 ∷ 3 ∷ 4 ∷ 5 ∷ 6 ∷ 7 ∷ 8 ∷ []) ≡ 96 ∷ 48 ∷ 32 ∷ 24 ∷ 20 ∷ 16 ∷ 14 ∷ 12 ∷ []
+  -- "numbers patterns from 0 to 95 divided by the bits per pattern": n is the number of one exactly when n times the depth is at most 95
+  pub numbered : (depth n : ℕ) → 0 < depth → (n < mostPatterns depth) ↔ (n * depth ≤ 95)
+  -- a count is allowed by its depth alone, from 1 to that many; the other fields keep their rules, whatever the count
+  pub counts : (depth count : ℕ) (others : List ℕ)
+      → allowed PatternSequence (depth ∷ count ∷ others) ≡ allowed PatternSequence (depth ∷ 1 ∷ others) && within 1 (mostPatterns depth) count
+  -- a depth of 0 is not allowed, whatever the count
+  pub noDepth : (count : ℕ) (others : List ℕ) → allowed PatternSequence (0 ∷ count ∷ others) ≡ false
+  -- "03 for a larger count, in its old place"
+  pub draws : (a : State) (p : Arrived) (q : Sequence) → Asks a p q → TooMany q → DrawsOn a p (0x03 ∷ [])
+  -- "Settings": whatever bytes are sent to a head in rule, in the middle of a packet too, however they are cut, it never has more patterns than it shows
+  pub heads : (c : Controller) (b : List ℕ) (s : Sending b) → Ready c → ShownWhole (sentTo c s .state .settings .sequence)
+  -- "refusal 3": a controller whose settings have more is refused by the receive call, and settings that have more by the standard list; they are not played
+  pub receive : (c : Controller) (input out : List ℕ) → 64 ≤ length out → TooMany (c .settings .sequence) → receiveCall c input out ≡ refused 3 c out
+  pub list : (s : Settings) (out : List ℕ) → 128 ≤ length out → TooMany (s .sequence) → listCall s out ≡ encoder.refused 3 out
+  pub play : (s : Settings) (b : List ℕ) → TooMany (s .sequence) → (endSettings s b ≡ s) × (endClean s b ≡ false)
+  -- "the encoder": refusal 2
+  pub encode : (q : Sequence) (out : List ℕ) → 64 ≤ length out → TooMany q → encodeCall (value.PatternSequence q) out ≡ encoder.refused 2 out
