@@ -1,13 +1,17 @@
 // Runs the stored cases and prints what the library answers; `rt` holds that to the file `stdout`.
 // The file `01` has the cases of document 01: 700 packets, each after some bytes sent before, 400
-// streams of host bytes, 51 streams for the packet layer, and 507 reports. A case is a row: its kind
-// in a byte, its length in four, least significant first, and its bytes. `scripts/vectors-data`
-// makes the cases and the expected text from the vectors and document 01, and nothing of it comes
-// from this program. What is proved of the program is that it is safe and ends.
+// streams of host bytes, 51 streams for the packet layer, and 507 reports. The file `02` has those of
+// request 2: 220 streams, 233 reports, 200 standard lists and 199 packets of the encoder. A case is a
+// row: its kind in a byte, its length in four, least significant first, and its bytes.
+// `scripts/vectors-data` makes the cases and the expected text from the vectors and the papers, and
+// nothing of it comes from this program. What is proved of the program is that it is safe and ends.
+mod emit;
 mod said;
 mod stream;
 
+use report::Checked;
 use report::LINE;
+use report::Outcome;
 use said::further;
 use said::number;
 use said::text;
@@ -18,17 +22,30 @@ const ROOM: usize = 70000;
 const ROWS: usize = 65536;
 
 // The line of the checking program.
+fn line(c: Checked) {
+    let mut bytes = [0u8; LINE];
+    let n = report::write_line(&mut bytes, c);
+    text(&bytes[..n]);
+}
+
+// And for a yes the end settings.
 fn report(b: &[u8]) {
     text(b": ");
-    let mut line = [0u8; LINE];
-    let n = report::write_line(&mut line, report::check(b));
-    text(&line[..n]);
+    let c = report::check(b);
+    let trial = c.trial;
+    let settings = c.settings;
+    line(c);
+    if let Outcome::Value(_) = trial {
+        emit::ended(settings);
+    }
 }
 
 fn case(kind: u8, b: &[u8]) {
     match kind {
         b's' => stream::tell(b),
         b'r' => report(b),
+        b'l' => emit::list(b),
+        b'e' => emit::packet(b),
         _ => text(b" of no known kind\n"),
     }
 }
@@ -49,13 +66,25 @@ fn next(fd: i32, row: usize, b: &mut [u8]) -> bool {
     true
 }
 
-fn main() {
-    let fd = os::open_read(b"01");
+fn rows(fd: i32) {
     let mut b = [0u8; ROOM];
     for row in 1..ROWS {
         if !next(fd, row, &mut b) {
             break;
         }
     }
+}
+
+fn file(name: &[u8]) {
+    text(b"file ");
+    text(name);
+    text(b"\n");
+    let fd = os::open_read(name);
+    rows(fd);
     libc::close(fd);
+}
+
+fn main() {
+    file(b"01");
+    file(b"02");
 }

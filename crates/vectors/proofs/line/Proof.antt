@@ -1,18 +1,18 @@
--- `report` is safe: the line lies within its array.
+-- `line` is safe: the line lies within its array.
 use Prim.Native.Nat.{_≤_}
 use mathlib.Core.Path.{sym}
 use borrow.Author.Needs.{needs}
 use lib.ListN.{length}
 use lib.Seq.{length-take-le}
 use Rattle.report.proofs.LineLaws.{written-within}
-use Rattle.vectors.proofs.report.Statement.{statement}
-use Rattle.vectors.proofs.report.Tie as tie
+use Rattle.vectors.proofs.line.Statement.{statement}
+use Rattle.vectors.proofs.line.Tie as tie
 
 within : (c : tie.After-write-line) → c .write-line .result ≤ length (c .write-line .last .0)
 within c = written-within _ _ (c .write-line .ensures)
 
-pub report-spec : {M : Type 1} → statement M
-report-spec =
+pub line-spec : {M : Type 1} → statement M
+line-spec =
     tie.close
-    (tie.spec (λ c. search needs) (λ c κs. search needs) (λ c κs. search needs) (λ c κs. search needs) within
+    (tie.spec (λ c κs. search needs) within
     (λ c. sym (length-take-le (c .before .write-line .result) (c .before .write-line .last .0) (within (c .before)))) (λ c κs. search needs) (λ c. search needs))
