@@ -73,6 +73,14 @@ const PAIRS: [(u16, u16); 26] = [
     (608, 684),
 ];
 
+/// The most patterns of a sequence at the depths 1 to 8.
+const MOST: [u8; 8] = [96, 48, 32, 24, 20, 16, 14, 12];
+
+/// That of the depth, or of the nearest one that is allowed.
+fn most_patterns(depth: u8) -> u8 {
+    MOST[usize::from(depth.clamp(1, 8)) - 1]
+}
+
 fn command(rng: &mut Rng) -> Command {
     rng.pick(&Command::ALL)
 }
@@ -106,10 +114,11 @@ fn allowed(rng: &mut Rng, command: Command) -> Vec<u8> {
         ],
         Command::Sequence => {
             let depth = rng.pick(&[1, 1, 1, 1, 2, 3, 4, 5, 6, 7, 8]);
+            let most = most_patterns(depth);
             let count = match rng.below(4) {
                 0 => 1,
-                1 => 96,
-                _ => 1 + rng.below(96) as u8,
+                1 => most,
+                _ => 1 + rng.below(most as usize) as u8,
             };
             let one = depth == 1;
             let mut data = vec![
@@ -154,8 +163,12 @@ fn doubtful(rng: &mut Rng, command: Command) -> Vec<u8> {
         }
         (2, Command::Video) => data[0] = rng.pick(&[0, 14, 15, 16, 20, 30, 40, 50, 60, 61]),
         (2..=4, Command::Sequence) => {
-            data[0] = rng.pick(&[0, 1, 1, 2, 8, 9]);
-            data[1] = rng.pick(&[0, 1, 50, 96, 97]);
+            data[0] = rng.pick(&[0, 1, 1, 2, 3, 4, 5, 6, 7, 8, 9]);
+            data[1] = match rng.below(3) {
+                0 => rng.pick(&[0, 1, 50, 96, 97, 255]),
+                // at the limit of the depth, and one past it
+                _ => most_patterns(data[0]) + rng.below(2) as u8,
+            };
             data[2] = rng.pick(&[0, 0, 1, 2, 3]);
             data[3] = rng.pick(&[0, 0, 5, 6, 7]);
         }
@@ -461,11 +474,16 @@ pub fn every_value() -> Vec<(Command, Vec<u8>)> {
     for depth in 0..=9 {
         for inversion in 0..=3 {
             for trigger in 0..=7 {
-                let mut data = vec![depth, 96, inversion, trigger];
+                // the count is one that every depth has
+                let mut data = vec![depth, 12, inversion, trigger];
                 data.extend([255; 13]);
                 data[16] = 2;
                 all.push((Command::Sequence, data));
             }
+        }
+        for count in 0..=255 {
+            let data = [vec![depth, count], vec![0; 15]].concat();
+            all.push((Command::Sequence, data));
         }
     }
     all

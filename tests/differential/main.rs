@@ -1,12 +1,14 @@
 //! The library against the model, on what a seeded generator makes up.
 //!
 //!     differential [N] [SEED] [--plant K] [--exact]
+//!     differential --cases FILE...
 //!
 //! N packets and N/10 reports (1,000,000 and 100,000). After each call what it returns, every field of
 //! the controller, the numbers or the verdict that it fills, which hold EE before, and every byte of
 //! the output are compared. A case that differs is made smaller, printed as hex, and the exit status
 //! is 1. --plant K puts fault K into the model, to see that it is found. --exact lends the library
-//! memory of exactly the length named, for valgrind.
+//! memory of exactly the length named, for valgrind. --cases takes the stored cases of the crate
+//! vectors (scripts/vectors-data says how they are laid out) in the place of generated ones.
 
 mod examples;
 mod ffi;
@@ -18,12 +20,16 @@ use generate::{Report, Rng};
 use model::{Command, Controller, Settings, Transfer};
 use std::fmt::Write;
 
+const USAGE: &str = "usage: differential [N] [SEED] [--plant K] [--exact]
+       differential --cases FILE...";
+
 /// A cut that leaves all the bytes together.
 const ALL: usize = usize::MAX;
 /// Bytes behind an output that no call may touch.
 const BEHIND: usize = 16;
-/// Room for the longest output that is lent, with as many bytes before and behind it.
-const LENT: usize = BEHIND + 130 + BEHIND;
+/// The longest output that is lent, and room for it with as many bytes before and behind it.
+const LONGEST: usize = 130;
+const LENT: usize = BEHIND + LONGEST + BEHIND;
 
 /// What came up, and how often.
 #[derive(Default)]
@@ -906,6 +912,66 @@ fn show(case: &Case) {
 
 // ---------------------------------------------------------------------------------------------
 
+/// The stored cases of a file. Streams are lent whole and byte by byte.
+fn stored(file: &str) -> Result<Vec<Case>, String> {
+    let bytes = std::fs::read(file).map_err(|why| format!("{file}: {why}"))?;
+    let mut cases = Vec::new();
+    let mut rest = &bytes[..];
+    while let Some((&[kind, l0, l1, l2, l3], after)) = rest.split_first_chunk::<5>() {
+        let length = u32::from_le_bytes([l0, l1, l2, l3]) as usize;
+        let case = after.get(..length).ok_or(format!("{file}: cut short"))?;
+        rest = &after[length..];
+        let settings = |at| Settings(case[at..].try_into().expect("settings"));
+        let room = |at| LONGEST.min(u16::from_le_bytes([case[at], case[at + 1]]) as usize);
+        match kind {
+            b's' => cases.extend([ALL, 1].map(|cut| {
+                let mut stream = single(case.to_vec(), 64);
+                if let Case::Stream(stream) = &mut stream {
+                    stream.cuts = vec![cut];
+                }
+                stream
+            })),
+            b'r' => cases.push(Case::Report(case.to_vec())),
+            b'l' => cases.push(Case::List {
+                settings: settings(2),
+                wide: Wide::default(),
+                out: room(0),
+            }),
+            b'e' => cases.push(Case::Encode {
+                cmd: [case[0], case[1]],
+                settings: settings(4),
+                wide: Wide::default(),
+                out: room(2),
+            }),
+            _ => return Err(format!("{file}: a case of no known kind")),
+        }
+    }
+    Ok(cases)
+}
+
+/// Compares both on the stored cases of some files.
+fn hold_stored(files: impl Iterator<Item = String>) {
+    let mut harness = Harness {
+        exact: false,
+        tally: Tally::default(),
+    };
+    for file in files {
+        match stored(&file) {
+            Ok(cases) => {
+                let count = cases.len();
+                for case in cases {
+                    harness.hold(case, &file, 0);
+                }
+                println!("no difference: {file}, {count} cases");
+            }
+            Err(why) => {
+                println!("{why}");
+                std::process::exit(1);
+            }
+        }
+    }
+}
+
 /// What a run that tried everything has seen: each of these at least once.
 fn missing(t: &Tally) -> Vec<String> {
     let mut none = Vec::new();
@@ -1007,10 +1073,11 @@ fn main() {
             "--exact" => exact = true,
             "--plant" => plant = arguments.next().and_then(|n| n.parse().ok()).unwrap_or(0),
             "--plants" => return println!("{}", model::PLANTS.len()),
+            "--cases" => return hold_stored(arguments),
             number => match number.parse::<u64>() {
                 Ok(number) => numbers.push(number),
                 Err(_) => {
-                    eprintln!("usage: differential [N] [SEED] [--plant K] [--exact]");
+                    eprintln!("{USAGE}");
                     std::process::exit(2);
                 }
             },

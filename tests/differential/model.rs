@@ -1,5 +1,6 @@
-//! Document 01 once more, in plain Rust: the receiver, the nine commands, the encoder, the standard
-//! list and the report checker. It was written from the paper and shares nothing with the crates.
+//! Document 01 once more, and the requests up to 2, in plain Rust: the receiver, the nine commands, the
+//! encoder, the standard list and the report checker. It was written from the papers and shares nothing
+//! with the crates.
 //! The differential test holds the library to it, and the benchmark measures the library against it.
 
 #![allow(dead_code)]
@@ -48,7 +49,7 @@ pub const fn planted(_fault: usize) -> bool {
 }
 
 /// What each planted fault is, from 1.
-pub const PLANTS: [&str; 28] = [
+pub const PLANTS: [&str; 31] = [
     "the last of equal scores is the winner",
     "a transfer stays open after an error packet",
     "error codes descend",
@@ -77,6 +78,9 @@ pub const PLANTS: [&str; 28] = [
     "a refusal leaves what taken and size held",
     "a packet that is not complete leaves what size held",
     "a refused report leaves the settings that the verdict held",
+    "a sequence may have 96 / depth patterns",
+    "a sequence may have one pattern less than 1 + 95 / depth",
+    "the count of a sequence is limited at depth 1 alone",
 ];
 
 // ---------------------------------------------------------------------------------------------
@@ -176,7 +180,8 @@ impl Command {
             }
             (Sequence, &[depth, count, inversion, trigger, .., led]) => {
                 matches!(depth, 1..=8)
-                    && matches!(count, 1..=96)
+                    && count >= 1
+                    && count <= most_patterns(depth)
                     && inversion <= 2
                     && (inversion == 0 || depth == 1 || planted(13))
                     && trigger <= 6
@@ -186,6 +191,24 @@ impl Command {
             (Run, &[run]) => run <= 1,
             _ => false,
         }
+    }
+}
+
+/// The most patterns of a sequence of this depth, which is from 1 to 8 (request 2): patterns are
+/// numbered from 0 to 95 divided by the bits of each, in whole numbers.
+#[inline]
+fn most_patterns(depth: u8) -> u8 {
+    if planted(29) {
+        return 96 / depth;
+    }
+    if planted(31) && depth != 1 {
+        return u8::MAX;
+    }
+    let last = 95 / depth;
+    if planted(30) {
+        last
+    } else {
+        1 + last
     }
 }
 
