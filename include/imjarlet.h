@@ -144,8 +144,8 @@ typedef struct {
 } imjarlet_video_mode;
 
 /*
- * 04 00: depth 1 to 8; count 1 to 96; inversion 0 to 2, nonzero only at depth 1; trigger 0 to 6, 6
- * only at depth 1; any times; LED 0 to 2.
+ * 04 00: depth 1 to 8; count 1 to 1 + 95 / depth, that is 96, 48, 32, 24, 20, 16, 14, 12; inversion 0
+ * to 2, nonzero only at depth 1; trigger 0 to 6, 6 only at depth 1; any times; LED 0 to 2.
  */
 typedef struct {
     uint8_t depth;

@@ -81,8 +81,8 @@ pub struct VideoMode {
     pub led: u16,
 }
 
-/// 04 00: depth 1 to 8; count 1 to 96; inversion 0 to 2, nonzero only at depth 1; trigger 0 to 6, 6
-/// only at depth 1; any times; LED 0 to 2.
+/// 04 00: depth 1 to 8; count 1 to 1 + 95 / depth, that is 96, 48, 32, 24, 20, 16, 14, 12; inversion 0
+/// to 2, nonzero only at depth 1; trigger 0 to 6, 6 only at depth 1; any times; LED 0 to 2.
 #[repr(C)]
 #[derive(Clone, Copy, PartialEq, Eq, Debug)]
 pub struct PatternSequence {

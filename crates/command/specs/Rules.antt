@@ -31,7 +31,7 @@ abbrev pub listed : ℕ → ℕ → List (ℕ × ℕ) → Bool
 listed x y [] = false
 listed x y (p ∷ ps) = eqb x (p .0) && eqb y (p .1) || listed x y ps
 
--- the most patterns of a depth: "1 plus the whole part of 95/depth" (request 2)
+-- The most patterns of a depth from 1 to 8: "at most 1 plus the whole part of 95/depth" (request 2).
 abbrev pub mostPatterns : ℕ → ℕ
 mostPatterns depth = 1 + 95 / depth
 
@@ -51,7 +51,7 @@ allowed DisplaySetting v = leb (getD v 0 0) 1 && leb (getD v 1 0) 1 && leb (getD
 allowed VideoInput v = listed (getD v 0 0) (getD v 1 0) pairs
 -- frame rate, depth, LED
 allowed VideoMode v = oneOf (getD v 0 0) (15 ∷ 30 ∷ 40 ∷ 50 ∷ 60 ∷ []) && within 1 8 (getD v 1 0) && within 1 4 (getD v 2 0)
--- depth 1 to 8; count 1 to the most of that depth, which is asked of a depth from 1 to 8 alone; inversion 0 to 2, nonzero only at depth 1; trigger 0 to 6, with 6 only at depth 1; delay, period and exposure any; LED 0 to 2
+-- depth 1 to 8; then count 1 to the most of that depth; inversion 0 to 2, nonzero only at depth 1; trigger 0 to 6, with 6 only at depth 1; delay, period and exposure any; LED 0 to 2
 allowed PatternSequence v =
     within 1 8 (getD v 0 0) && within 1 (mostPatterns (getD v 0 0)) (getD v 1 0) && (leb (getD v 2 0) 2 && (eqb (getD v 2 0) 0 || eqb (getD v 0 0) 1))
     && (leb (getD v 3 0) 6 && (not (eqb (getD v 3 0) 6) || eqb (getD v 0 0) 1)) && leb (getD v 7 0) 2
