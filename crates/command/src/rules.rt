@@ -11,7 +11,8 @@ use crate::value::Value;
 ghost use mathlib.Core.Path.{_≡_};
 ghost use mathlib.Core.List.{[], _∷_};
 ghost use Rattle.command.specs.Fields.{currentValues, colourValues, settingValues, inputValues, videoValues, sequenceValues};
-ghost use Rattle.command.specs.Rules.{allowed as allowedIn, blocked as blockedIn, settingsInRule};
+ghost use mathlib.Core.Bool.{cond};
+ghost use Rattle.command.specs.Rules.{within, mostPatterns, allowed as allowedIn, blocked as blockedIn, settingsInRule};
 ghost use Rattle.command.specs.declared.table.Command.the-variants as command;
 ghost use Rattle.command.specs.Value.{commandIn, valuesIn};
 
@@ -113,14 +114,29 @@ fn video_mode(q: VideoMode) -> bool
         & ((1 <= q.led) & (q.led <= 4))
 }
 
-// 04 00: at most 1 + 95 / depth patterns, said by a product: some processors cannot divide. Inversion, and trigger 6, only at depth 1.
+// The most patterns of a depth, 1 + 95 / depth: written out, since not every processor can divide.
+fn most_patterns(depth: u8) -> u8
+    ensures { λ r. ⌜ r ≡ cond (within 1 8 depth) (mostPatterns depth) 0 ⌝ }
+{
+    match depth {
+        1 => 96,
+        2 => 48,
+        3 => 32,
+        4 => 24,
+        5 => 20,
+        6 => 16,
+        7 => 14,
+        8 => 12,
+        _ => 0,
+    }
+}
+
+// 04 00: inversion, and trigger 6, only at depth 1.
 fn pattern_sequence(q: PatternSequence) -> bool
     ensures { λ r. ⌜ r ≡ allowedIn command.PatternSequence (sequenceValues q) ⌝ }
 {
-    let depth = q.depth as u32;
-    let count = q.count as u32;
     ((1 <= q.depth) & (q.depth <= 8))
-        & ((1 <= q.count) & (count * depth <= 95 + depth))
+        & ((1 <= q.count) & (q.count <= most_patterns(q.depth)))
         & ((q.inversion <= 2) & ((q.inversion == 0) | (q.depth == 1)))
         & ((q.trigger <= 6) & ((q.trigger != 6) | (q.depth == 1)))
         & (q.led <= 2)

@@ -1,18 +1,16 @@
 -- Settings that keep the rules, and what a write leaves of them.
-use Prim.Native.Nat.{ℕ, zero, suc, _+_, _*_, _≤_, _<_}
-use mathlib.Core.Path.{_≡_, refl, ap, sym, subst, _∙_}
-use mathlib.Core.Logic.{_↔_}
+use Prim.Native.Nat.{ℕ, _≤_}
+use mathlib.Core.Path.{_≡_, refl, ap, sym, subst}
 use mathlib.Core.Bool.{Bool, true, false, cond, not, _&&_, and-false}
 use mathlib.Core.List.{List, [], _∷_}
-use native.Mathlib.Nat.{le-div-iff-mul-le, suc-mul}
 use native.Mathlib.Omega.{arith}
 use lib.Dec.{eqb, leb}
-use borrow.Author.Tests.{not-true, leb-true, leb-false, le-leb}
+use borrow.Author.Tests.{not-true, leb-true}
 use lib.ListN.{length, getD}
 use Rattle.packet.proofs.Cases.{bool-cases, cond-cases, and-left, and-right, and-both}
 use Rattle.command.specs.Data.{Fit}
 use Rattle.command.specs.Table.{table, cmd1For, cmd2For, find, commandOf, same, layout}
-use Rattle.command.specs.Rules.{mostPatterns, allowed, blocked, allAllowed, settingsInRule}
+use Rattle.command.specs.Rules.{allowed, blocked, allAllowed, settingsInRule}
 use Rattle.command.specs.Settings.{valuesOf, factory, valuesAfter, store}
 use Rattle.command.specs.Value.{widths}
 use Rattle.command.specs.declared.settings.Settings.{Settings}
@@ -21,26 +19,6 @@ use Rattle.command.specs.declared.table.Command.the-variants.{DisplayMod
 use Rattle.command.specs.declared.table.Found.the-variants.{Known}
 use Rattle.command.proofs.table.Laws.{each, found, find-later, same-eq, fit-length, values-settings}
 use Rattle.command.proofs.data.Laws.{fit-last}
-
--- The most patterns of a depth, by a product: they are numbered from 0, and the last number times the depth is at most 95.
-pub most-numbered : (depth n : ℕ) → 0 < depth → (suc n ≤ mostPatterns depth) ↔ (n * depth ≤ 95)
-most-numbered depth n h =
-    let d = le-div-iff-mul-le {k = depth} {x = n} {y = 95} h in
-    (λ m. d .0 (omega arith), λ m. let q = d .1 m in omega arith)
-
--- a test as good as another
-same-test : (k l m n : ℕ) → (k ≤ l) ↔ (m ≤ n) → leb k l ≡ leb m n
-same-test k l m n h =
-    bool-cases (leb m n) (λ e. le-leb k l (h .1 (leb-true m n e)) ∙ sym e)
-    (λ e. bool-cases (leb k l) (λ b. let x = h .0 (leb-true k l b) in let y = leb-false m n e in absurd (omega arith)) (λ b. b ∙ sym e))
-
--- so a test of it need not divide
-pub most-tested : (depth count : ℕ) → 0 < depth → leb (count * depth) (95 + depth) ≡ leb count (mostPatterns depth)
-most-tested depth zero h = same-test (0 * depth) (95 + depth) 0 (mostPatterns depth) (λ _. omega arith, λ _. omega arith)
-most-tested depth (suc n) h =
-    let q = most-numbered depth n h in
-    let m = suc-mul n depth in
-    same-test (suc n * depth) (95 + depth) (suc n) (mostPatterns depth) (λ l. q .1 (omega arith), λ l. let b = q .0 l in omega arith)
 
 -- the settings keep the rules
 pub record Kept (s : Settings) : Type 0 where
