@@ -443,8 +443,9 @@ pub fn some_packets(rng: &mut Rng, parts: &mut Vec<Vec<u8>>, longest: usize) {
     }
 }
 
-/// Every command's data with one byte at each of its values, the others at the factory's; and every
-/// pair of a listed X and a listed Y, and those beside them.
+/// Every command's data with one byte at each of its values, the others at the factory's; every pair
+/// of a listed X and a listed Y, and those beside them; of sequences every depth from 0 to 9 with every
+/// inversion and trigger up to one past their limits, and with every count.
 pub fn every_value() -> Vec<(Command, Vec<u8>)> {
     let mut all = Vec::new();
     for command in Command::ALL {

@@ -912,7 +912,8 @@ fn show(case: &Case) {
 
 // ---------------------------------------------------------------------------------------------
 
-/// The stored cases of a file. Streams are lent whole and byte by byte.
+/// The stored cases of a file. Streams are lent whole and byte by byte; an output that is longer than
+/// any that is lent here is as long as the longest.
 fn stored(file: &str) -> Result<Vec<Case>, String> {
     let bytes = std::fs::read(file).map_err(|why| format!("{file}: {why}"))?;
     let mut cases = Vec::new();
@@ -945,6 +946,9 @@ fn stored(file: &str) -> Result<Vec<Case>, String> {
             }),
             _ => return Err(format!("{file}: a case of no known kind")),
         }
+    }
+    if !rest.is_empty() || cases.is_empty() {
+        return Err(format!("{file}: cut short"));
     }
     Ok(cases)
 }

@@ -18,8 +18,9 @@ use Rattle.command.specs.Settings.{valuesOf}
 use Rattle.command.specs.Table.{layout}
 use Rattle.command.specs.Rules.{within, mostPatterns, allowed, settingsInRule}
 use Rattle.command.specs.Data.{splitAll}
-use Rattle.command.specs.Faults.{Arrived}
-use Rattle.command.specs.Player.{State}
+use Rattle.command.specs.Faults.{Arrived, arrived}
+use Rattle.command.specs.Response.{acknowledged}
+use Rattle.command.specs.Player.{State, judged}
 use Rattle.command.specs.Controller.{stateOf, partsInRule}
 use Rattle.command.specs.Endpoint.{takenBy, arrivedIn, receiveCall, refused}
 use Rattle.command.specs.Encoder.{encodeCall, listCall}
@@ -34,6 +35,7 @@ use Rattle.command.specs.declared.value.Value.the-variants as value
 use Rattle.command.specs.declared.controller.Controller.{Controller}
 use Rattle.command.proofs.rules.Laws.{kept-by, Kept}
 use Rattle.command.proofs.faults.Laws.{never}
+use Rattle.command.proofs.judgement.Called.{exactly-called}
 use Rattle.command.proofs.controller.Laws.{rule-parts}
 use Rattle.command.proofs.endpoint.Laws.{sent-in-rule}
 use Rattle.command.proofs.Refusals.{settings-out}
@@ -77,6 +79,12 @@ draws-value a p q k h =
     Alone 0x03 (k .first) (k .completes)
     (ValueNotAllowed PatternSequence (k .write) (k .names) (k .size)
     (too-many (splitAll (layout PatternSequence) (joinedData (a .transfer) p)) (subst TooMany (sym (k .sequence)) h)))
+
+-- a packet that draws it is not acknowledged
+pub not-acknowledged : (a : State) (p : List ℕ) (q : Sequence) → Asks a (arrived p) q → TooMany q → acknowledged (judged a p) ≡ false
+unfolding judged
+not-acknowledged a p q k h =
+    rw (exactly-called (a .settings .mode) (a .transfer) (arrived p) (0x03 ∷ []) .1 (draws-value a (arrived p) q k h) .type)
 
 -- what begins with the error type, of the bytes that are told, does
 told-error : (m : ℕ) (b : List ℕ) → typeOf (take m b) ≡ error → typeOf b ≡ error

@@ -133,7 +133,6 @@ rows =
     ∷ Forbids PatternSequence (0 ∷ 1 ∷ 0 ∷ 0 ∷ 0 ∷ 0 ∷ 0 ∷ 0 ∷ [])
     ∷ Forbids PatternSequence (9 ∷ 1 ∷ 0 ∷ 0 ∷ 0 ∷ 0 ∷ 0 ∷ 0 ∷ [])
     ∷ Forbids PatternSequence (1 ∷ 0 ∷ 0 ∷ 0 ∷ 0 ∷ 0 ∷ 0 ∷ 0 ∷ [])
-    ∷ Forbids PatternSequence (1 ∷ 97 ∷ 0 ∷ 0 ∷ 0 ∷ 0 ∷ 0 ∷ 0 ∷ [])
     ∷ Forbids PatternSequence (1 ∷ 1 ∷ 3 ∷ 0 ∷ 0 ∷ 0 ∷ 0 ∷ 0 ∷ [])
     ∷ Forbids PatternSequence (2 ∷ 1 ∷ 1 ∷ 0 ∷ 0 ∷ 0 ∷ 0 ∷ 0 ∷ [])
     ∷ Forbids PatternSequence (1 ∷ 1 ∷ 0 ∷ 7 ∷ 0 ∷ 0 ∷ 0 ∷ 0 ∷ [])
@@ -213,7 +212,7 @@ fortyTried =
 
 abbrev pub counts : List Example
 counts =
-    -- each depth at its limit and one past it; no depth, and one too many, at any count; no pattern
+    -- each depth at its limit and one past it; depths that there are not, and no pattern
     Allows PatternSequence (sequenceOf 1 96)
     ∷ Forbids PatternSequence (sequenceOf 1 97)
     ∷ Allows PatternSequence (sequenceOf 2 48)
@@ -230,14 +229,11 @@ counts =
     ∷ Forbids PatternSequence (sequenceOf 7 15)
     ∷ Allows PatternSequence (sequenceOf 8 12)
     ∷ Forbids PatternSequence (sequenceOf 8 13)
-    ∷ Forbids PatternSequence (sequenceOf 0 1)
     ∷ Forbids PatternSequence (sequenceOf 0 0)
     ∷ Forbids PatternSequence (sequenceOf 0 96)
     ∷ Forbids PatternSequence (sequenceOf 0 255)
-    ∷ Forbids PatternSequence (sequenceOf 9 1)
     ∷ Forbids PatternSequence (sequenceOf 9 11)
     ∷ Forbids PatternSequence (sequenceOf 255 1)
-    ∷ Forbids PatternSequence (sequenceOf 1 0)
     ∷ Forbids PatternSequence (sequenceOf 8 0)
     -- 40 patterns at depth 4 draw 03, 24 are stored; in a transfer alike
     ∷ Answers (sequencePacket 4 40 0x43) (0x01 ∷ 0x04 ∷ 0x00 ∷ 0x00 ∷ 0x01 ∷ 0x00 ∷ 0x03 ∷ 0x09 ∷ [])

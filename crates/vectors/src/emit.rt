@@ -1,5 +1,7 @@
 // What the standard list and the encoder write, to an output of the length that a case names. The case
-// has the settings too: the data of each command, one behind the other in table order.
+// has the settings too, 48 bytes: the data of each command, one behind the other in table order. So the
+// display mode is at place 0, test pattern 1, LED current 2, static colour 8, display setting 12, video
+// input 15, video mode 27, pattern sequence 30 and run 47.
 use crate::said::Said;
 use crate::said::further;
 use crate::said::number;
@@ -17,6 +19,9 @@ use command::StaticColour;
 use command::VideoInput;
 use command::VideoMode;
 ghost use Prim.Native.Nat.{_≤_};
+
+// The data of every command.
+const SETTINGS: usize = 48;
 
 // Room for the longest output.
 const ROOM: usize = 2000;
@@ -154,6 +159,10 @@ fn settings_from(b: &[u8], at: usize) -> Settings {
 // The output's length in two bytes, and the settings.
 pub fn list(b: &[u8]) {
     text(b": ");
+    if b.len() != 2 + SETTINGS {
+        text(b"of another length\n");
+        return;
+    }
     let mut out = [0u8; ROOM];
     let n = further(0, word(b, 0) as usize, ROOM);
     list_to(settings_from(b, 2), &mut out[0..n]);
@@ -162,6 +171,10 @@ pub fn list(b: &[u8]) {
 // The command in two bytes, the output's length in two, and the settings.
 pub fn packet(b: &[u8]) {
     text(b": ");
+    if b.len() != 4 + SETTINGS {
+        text(b"of another length\n");
+        return;
+    }
     let Found::Known(c) = Command::find(byte(b, 0), byte(b, 1)) else {
         text(b"no command\n");
         return;
