@@ -922,6 +922,14 @@ fn stored(file: &str) -> Result<Vec<Case>, String> {
         let length = u32::from_le_bytes([l0, l1, l2, l3]) as usize;
         let case = after.get(..length).ok_or(format!("{file}: cut short"))?;
         rest = &after[length..];
+        let front = match kind {
+            b'l' => Some(2),
+            b'e' => Some(4),
+            _ => None,
+        };
+        if front.is_some_and(|front| length != front + size_of::<Settings>()) {
+            return Err(format!("{file}: a case of another length"));
+        }
         let settings = |at| Settings(case[at..].try_into().expect("settings"));
         let room = |at| LONGEST.min(u16::from_le_bytes([case[at], case[at + 1]]) as usize);
         match kind {

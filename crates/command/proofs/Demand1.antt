@@ -15,7 +15,7 @@ use Rattle.packet.specs.Receiver.{Received}
 use Rattle.packet.specs.Stream.{packets}
 use Rattle.packet.specs.Writer.{written}
 use Rattle.packet.specs.Number.{bytesOf}
-use Rattle.packet.proofs.Cases.{bool-cases, cond-cases, and-both, or-left, or-right}
+use Rattle.packet.proofs.Cases.{bool-cases, cond-cases, and-both, or-left, or-right, never}
 use Rattle.command.specs.Table.{cmd1For, cmd2For, same, layout}
 use Rattle.command.specs.Settings.{store}
 use Rattle.command.specs.Data.{splitAll}
@@ -40,7 +40,7 @@ use Rattle.command.specs.declared.transfer.TransferState.{TransferState}
 use Rattle.command.specs.declared.controller.Controller.{Controller}
 use Rattle.command.proofs.table.Laws.{known-code, same-eq}
 use Rattle.command.proofs.value.Laws.{command-from, values-from}
-use Rattle.command.proofs.faults.Laws.{never, two-true, firstGroup, no-fault}
+use Rattle.command.proofs.faults.Laws.{two-true, firstGroup, no-fault}
 use Rattle.command.proofs.judgement.Laws.{judge-cases}
 use Rattle.command.proofs.judgement.Called.{IsError, exactly-called}
 use Rattle.command.proofs.endpoint.Boundary.{follows-played}

@@ -12,7 +12,7 @@ use Rattle.packet.specs.Packet.{payloadLength}
 use Rattle.packet.specs.Answer.{Refuses, Waits, Answers, Answering}
 use Rattle.packet.specs.Receiver.{packetInRule}
 use Rattle.packet.proofs.Answering.{answering, refusal-number, answers-not-refused, waits-not-refused, all-taken}
-use Rattle.packet.proofs.Cases.{bool-cases, cond-cases, and-left, and-right, or-left, or-right, and-cases}
+use Rattle.packet.proofs.Cases.{bool-cases, cond-cases, and-left, and-right, or-left, or-right, and-cases, never}
 use Rattle.command.specs.Table.{table, commandOf, isKnown}
 use Rattle.command.specs.Settings.{valuesOf}
 use Rattle.command.specs.Rules.{allowed, blocked, allAllowed, settingsInRule}
@@ -27,7 +27,7 @@ use Rattle.command.specs.declared.settings.Settings.{Settings}
 use Rattle.command.specs.declared.value.Value.{Value}
 use Rattle.command.specs.declared.controller.Controller.{Controller}
 use Rattle.command.proofs.rules.Laws.{kept-by}
-use Rattle.command.proofs.faults.Laws.{never, named, unnamed}
+use Rattle.command.proofs.faults.Laws.{named, unnamed}
 
 -- The tests of refusal 3 are document 01's line.
 one-not-allowed : (s : Settings) (cs : List Command) → allAllowed s cs ≡ false → SettingsOutOfRule s

@@ -7,12 +7,12 @@ use mathlib.Core.List.{List, [], _∷_}
 use native.Mathlib.Nat.{le-div-iff-mul-le}
 use native.Mathlib.Omega.{arith}
 use lib.Dec.{leb}
-use lib.ListN.{length, take, getD}
+use lib.ListN.{length, take, getD, replicate}
 use borrow.Author.Tests.{le-ltb, le-leb, lt-leb, leb-true, leb-false}
 use Rattle.packet.specs.Answer.{Answers}
 use Rattle.packet.specs.Number.{bytesOf}
 use Rattle.packet.specs.Packet.{typeOf, packetOf, sealed, checksum, sum, error, whole}
-use Rattle.packet.proofs.Cases.{bool-cases}
+use Rattle.packet.proofs.Cases.{bool-cases, never}
 use Rattle.command.specs.Fields.{sequenceValues}
 use Rattle.command.specs.Settings.{valuesOf}
 use Rattle.command.specs.Table.{layout}
@@ -34,7 +34,6 @@ use Rattle.command.specs.declared.settings.PatternSequence.{PatternSeque
 use Rattle.command.specs.declared.value.Value.the-variants as value
 use Rattle.command.specs.declared.controller.Controller.{Controller}
 use Rattle.command.proofs.rules.Laws.{kept-by, Kept}
-use Rattle.command.proofs.faults.Laws.{never}
 use Rattle.command.proofs.judgement.Called.{exactly-called}
 use Rattle.command.proofs.controller.Laws.{rule-parts}
 use Rattle.command.proofs.endpoint.Laws.{sent-in-rule}
@@ -59,6 +58,9 @@ count-alone depth count others = rw (le-leb 1 (mostPatterns depth) (omega arith)
 no-depth : (depth count : ℕ) (others : List ℕ) → (depth < 1) ⊎ (8 < depth) → allowed PatternSequence (depth ∷ count ∷ others) ≡ false
 no-depth depth count others (inl h) = rw (lt-leb 1 depth h)
 no-depth depth count others (inr h) = rw (lt-leb depth 8 h, and-false)
+
+up-to-most : (depth count : ℕ) → 1 ≤ depth → depth ≤ 8 → 1 ≤ count → count ≤ mostPatterns depth → allowed PatternSequence (depth ∷ count ∷ replicate 6 0) ≡ true
+up-to-most depth count a b c d = rw (le-leb 1 depth a, le-leb depth 8 b, le-leb 1 count c, le-leb count (mostPatterns depth) d)
 
 -- a larger count is not allowed
 too-many : (v : List ℕ) → mostPatterns (getD v 0 0) < getD v 1 0 → allowed PatternSequence v ≡ false
@@ -128,6 +130,7 @@ request-2 =
       numbered = most-numbered;
       counts = count-alone;
       depths = no-depth;
+      allows = up-to-most;
       draws = draws-value;
       answered = answers-so;
       heads = head-shows;

@@ -3,9 +3,9 @@
 use Prim.Native.Nat.{ℕ, _*_, _<_, _≤_}
 use mathlib.Core.Path.{_≡_}
 use mathlib.Core.Logic.{_↔_, _⊎_}
-use mathlib.Core.Bool.{false, _&&_}
+use mathlib.Core.Bool.{true, false, _&&_}
 use mathlib.Core.List.{List, [], _∷_, map}
-use lib.ListN.{length, take}
+use lib.ListN.{length, take, replicate}
 use Rattle.packet.specs.Answer.{Answers}
 use Rattle.packet.specs.Packet.{hostWrite}
 use Rattle.command.specs.Table.{layout, sizeOf}
@@ -56,6 +56,8 @@ pub record Request2 : Type 0 where
       → allowed PatternSequence (depth ∷ count ∷ others) ≡ allowed PatternSequence (depth ∷ 1 ∷ others) && within 1 (mostPatterns depth) count
   -- a depth that is not from 1 to 8, 0 among them, is not allowed, whatever the count
   pub depths : (depth count : ℕ) (others : List ℕ) → (depth < 1) ⊎ (8 < depth) → allowed PatternSequence (depth ∷ count ∷ others) ≡ false
+  -- "may ask": every count up to that is allowed, with all else 0
+  pub allows : (depth count : ℕ) → 1 ≤ depth → depth ≤ 8 → 1 ≤ count → count ≤ mostPatterns depth → allowed PatternSequence (depth ∷ count ∷ replicate 6 0) ≡ true
   -- "03 for a larger count, in its old place": on the state of any head, alone,
   pub draws : (a : State) (p : Arrived) (q : Sequence) → Asks a p q → TooMany q → DrawsOn a p (0x03 ∷ [])
   -- so that the receive call that such a packet completes answers it, and leaves the settings

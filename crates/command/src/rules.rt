@@ -114,9 +114,10 @@ fn video_mode(q: VideoMode) -> bool
         & ((1 <= q.led) & (q.led <= 4))
 }
 
-// The most patterns of a depth, 1 + 95 / depth: written out, since not every processor can divide.
+// The most patterns of a depth, 1 + 95 / depth: written out, since not every processor can divide. What
+// it says of a depth that is not from 1 to 8 does not matter: its own rule refuses that.
 fn most_patterns(depth: u8) -> u8
-    ensures { λ r. ⌜ r ≡ cond (within 1 8 depth) (mostPatterns depth) 0 ⌝ }
+    ensures { λ r. ⌜ r ≡ cond (within 1 8 depth) (mostPatterns depth) 1 ⌝ }
 {
     match depth {
         1 => 96,
@@ -127,7 +128,7 @@ fn most_patterns(depth: u8) -> u8
         6 => 16,
         7 => 14,
         8 => 12,
-        _ => 0,
+        _ => 1,
     }
 }
 

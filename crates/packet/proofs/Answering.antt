@@ -10,10 +10,7 @@ use lib.Dec.{eqb, ltb}
 use lib.ListN.{length}
 use Rattle.packet.specs.Answer.{Outcome, Refuses, Waits, Answers, outcomeTold, Told, Answering}
 use Rattle.packet.specs.Receiver.{Receiver, Received, missing, waiting, completed, receiving}
-use Rattle.packet.proofs.Cases.{cond-cases}
-
-never : {P : Type 0} → _≡_ {A = Bool} false true → P
-never h = let z : _≡_ {A = ℕ} 0 1 = cc in absurd (omega arith)
+use Rattle.packet.proofs.Cases.{cond-cases, never}
 
 -- A call answers `short` where the output is too short, else `good` or, where its second test fails, `bad`.
 module _ {A : Type 0} (Refused : A → ℕ → Type 0) (Untouched Answered : A → Type 0) (short bad good : A) (out : List ℕ) (shortest second : ℕ) {Holds : Type 0}

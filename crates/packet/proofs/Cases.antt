@@ -2,6 +2,7 @@
 use Prim.Native.Nat.{ℕ, _<_, _≤_}
 use mathlib.Core.Path.{_≡_, refl}
 use mathlib.Core.Bool.{Bool, true, false, cond, _&&_, _||_}
+use native.Mathlib.Omega.{arith}
 use borrow.Author.Tests.{ltb-true, ltb-false}
 use lib.Dec.{ltb}
 
@@ -14,6 +15,10 @@ cond-cases P false f g = g refl
 pub bool-cases : {P : Type 0} (b : Bool) → (b ≡ true → P) → (b ≡ false → P) → P
 bool-cases true f g = f refl
 bool-cases false f g = g refl
+
+-- which no test has at once
+pub never : {P : Type 0} → _≡_ {A = Bool} false true → P
+never h = let z : _≡_ {A = ℕ} 0 1 = cc in absurd (omega arith)
 
 -- the two orders of numbers
 pub lt-cases : {P : Type 0} (m n : ℕ) → (m < n → P) → (n ≤ m → P) → P

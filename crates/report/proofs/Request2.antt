@@ -1,11 +1,10 @@
 -- Request 2 of reports, proved: the end settings of every trial keep the rules, those of an accepted report are a trial's, and a packet that draws 03 is not acknowledged.
 use Prim.Native.Nat.{ℕ, _+_}
 use mathlib.Core.Path.{_≡_, ap, sym, subst, _∙_}
-use mathlib.Core.Bool.{Bool, true, false}
+use mathlib.Core.Bool.{true}
 use mathlib.Core.List.{List, [], _∷_, _++_}
-use native.Mathlib.Omega.{arith}
 use lib.ListN.{length}
-use Rattle.packet.proofs.Cases.{and-left, and-right}
+use Rattle.packet.proofs.Cases.{and-left, and-right, never}
 use Rattle.command.specs.Settings.{factory}
 use Rattle.command.specs.Response.{acknowledged}
 use Rattle.command.specs.Player.{State, from, judged, next, judgements, after, allAcknowledged}
@@ -36,9 +35,6 @@ not-shipped s b k h =
     never
     (sym (not-acknowledged (after (from s) (k .before)) (k .packet) (k .sequence) (k .asks) (k .many))
     ∙ one-acknowledged (from s) (k .before) (k .packet) (k .behind) all)
-  where
-    never : _≡_ {A = Bool} false true → ⊥
-    never e = let z : _≡_ {A = ℕ} 0 1 = cc in omega arith
 
 pub request-2 : Request2
 request-2 =

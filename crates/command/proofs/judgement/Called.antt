@@ -10,7 +10,7 @@ use lib.ListN.{length, getD}
 use borrow.Author.Tests.{eq-eqb, ne-eqb, eqb-true, eqb-false, not-true}
 use Rattle.packet.specs.Packet.{error, hostWrite, hostRead, whole, last, sum}
 use Rattle.packet.specs.Number.{valueOf}
-use Rattle.packet.proofs.Cases.{bool-cases, and-left, and-right}
+use Rattle.packet.proofs.Cases.{bool-cases, and-left, and-right, never}
 use Rattle.command.specs.Table.{commandOf, same, layout, sizeOf}
 use Rattle.command.specs.Rules.{blocked}
 use Rattle.command.specs.Data.{splitAll}
@@ -28,7 +28,7 @@ use Rattle.command.specs.declared.judgement.Judgement.{Judgement}
 use Rattle.command.specs.declared.judgement.Judgement.the-variants.{Error, Hold, Write, Read}
 use Rattle.command.proofs.table.Laws.{known-code, same-eq}
 use Rattle.command.proofs.judgement.Laws.{judge-cases, unknown-fault}
-use Rattle.command.proofs.faults.Laws.{never, two-true, true-two, named, codes-ascending, same-ascending, firstGroup, codes-some, codes-exactly, no-fault, fault-any, faultless-test}
+use Rattle.command.proofs.faults.Laws.{two-true, true-two, named, codes-ascending, same-ascending, firstGroup, codes-some, codes-exactly, no-fault, fault-any, faultless-test}
 
 -- From a judgement to the faults: an error has the codes that the packet's faults call for.
 
