@@ -8,11 +8,12 @@ use crate::settings::StaticColour;
 use crate::settings::VideoInput;
 use crate::settings::VideoMode;
 use crate::value::Value;
+ghost use Prim.Native.Nat.{_<_};
 ghost use mathlib.Core.Path.{_≡_};
 ghost use mathlib.Core.List.{[], _∷_};
 ghost use Rattle.command.specs.Fields.{currentValues, colourValues, settingValues, inputValues, videoValues, sequenceValues};
-ghost use mathlib.Core.Bool.{cond};
-ghost use Rattle.command.specs.Rules.{within, mostPatterns, allowed as allowedIn, blocked as blockedIn, settingsInRule};
+ghost use lib.Dec.{leb};
+ghost use Rattle.command.specs.Rules.{mostPatterns, allowed as allowedIn, blocked as blockedIn, settingsInRule};
 ghost use Rattle.command.specs.declared.table.Command.the-variants as command;
 ghost use Rattle.command.specs.Value.{commandIn, valuesIn};
 
@@ -114,22 +115,13 @@ fn video_mode(q: VideoMode) -> bool
         & ((1 <= q.led) & (q.led <= 4))
 }
 
-// The most patterns of a depth, 1 + 95 / depth: written out, since not every processor can divide. What
-// it says of a depth that is not from 1 to 8 does not matter: its own rule refuses that.
-fn most_patterns(depth: u8) -> u8
-    ensures { λ r. ⌜ r ≡ cond (within 1 8 depth) (mostPatterns depth) 1 ⌝ }
+// At most 1 + 95 / depth patterns, said by a product: not every processor can divide, and damaged memory
+// may have a depth of 0, which its own rule refuses.
+fn count_in_limit(depth: u8, count: u8) -> bool
+    ensures { λ r. ⌜ (0 < depth → r ≡ leb count (mostPatterns depth)) ⌝ }
 {
-    match depth {
-        1 => 96,
-        2 => 48,
-        3 => 32,
-        4 => 24,
-        5 => 20,
-        6 => 16,
-        7 => 14,
-        8 => 12,
-        _ => 1,
-    }
+    let bits = depth as u32;
+    count as u32 * bits <= 95 + bits
 }
 
 // 04 00: inversion, and trigger 6, only at depth 1.
@@ -137,7 +129,7 @@ fn pattern_sequence(q: PatternSequence) -> bool
     ensures { λ r. ⌜ r ≡ allowedIn command.PatternSequence (sequenceValues q) ⌝ }
 {
     ((1 <= q.depth) & (q.depth <= 8))
-        & ((1 <= q.count) & (q.count <= most_patterns(q.depth)))
+        & ((1 <= q.count) & count_in_limit(q.depth, q.count))
         & ((q.inversion <= 2) & ((q.inversion == 0) | (q.depth == 1)))
         & ((q.trigger <= 6) & ((q.trigger != 6) | (q.depth == 1)))
         & (q.led <= 2)
