@@ -912,8 +912,101 @@ fn show(case: &Case) {
 
 // ---------------------------------------------------------------------------------------------
 
-/// The stored cases of a file. Streams are lent whole and byte by byte; an output that is longer than
-/// any that is lent here is as long as the longest.
+/// The bytes on the wire of each field of the settings, in layout order, and the places there of those
+/// that the library has wider. A stored case has four bytes for each.
+const FIELDS: [usize; 30] = [
+    1, 1, 2, 2, 2, 1, 1, 1, 1, 1, 1, 1, 2, 2, 2, 2, 2, 2, 1, 1, 1, 1, 1, 1, 1, 4, 4, 4, 1, 1,
+];
+const WIDER: [usize; 4] = [11, 20, 28, 29];
+
+/// The settings of a stored case; none where they are of another length, or the library's field has no
+/// room for a number.
+fn stored_settings(bytes: &[u8]) -> Option<(Settings, Wide)> {
+    if bytes.len() != 4 * FIELDS.len() {
+        return None;
+    }
+    let mut settings = Vec::new();
+    let mut wide = Wide::default();
+    for (k, (number, size)) in bytes.chunks_exact(4).zip(FIELDS).enumerate() {
+        let value = u32::from_le_bytes(number.try_into().ok()?);
+        let wider = WIDER.iter().position(|&place| place == k);
+        let bits = wider.map_or(8 * size as u32, |field| Wide::FIELDS[field].1);
+        if value.checked_shr(bits).is_some_and(|above| above != 0) {
+            return None;
+        }
+        settings.extend(&number[..size]);
+        if let Some(field) = wider {
+            wide.0[field] = value;
+        }
+    }
+    Some((Settings(settings.try_into().ok()?), wide))
+}
+
+/// A stream lent whole and byte by byte.
+fn stored_stream(bytes: &[u8]) -> [Case; 2] {
+    [ALL, 1].map(|cut| {
+        let mut stream = single(bytes.to_vec(), 64);
+        if let Case::Stream(stream) = &mut stream {
+            stream.cuts = vec![cut];
+        }
+        stream
+    })
+}
+
+/// A row of the guide: the stream, the encoder and the standard list.
+fn stored_row(row: &[u8]) -> Option<Vec<Case>> {
+    let (&label, rest) = row.split_first()?;
+    let (&[cmd1, cmd2, l0, l1], rest) = rest.get(label as usize..)?.split_first_chunk()?;
+    let (stream, rest) = rest.split_at_checked(u16::from_le_bytes([l0, l1]) as usize)?;
+    let (settings, wide) = stored_settings(rest)?;
+    let mut cases = Vec::from(stored_stream(stream));
+    cases.push(Case::Encode {
+        cmd: [cmd1, cmd2],
+        settings,
+        wide,
+        out: model::OUTPUT,
+    });
+    cases.push(Case::List {
+        settings,
+        wide,
+        out: model::LIST_OUTPUT,
+    });
+    Some(cases)
+}
+
+/// What is tried of a stored case; none where it is of another length. An output that is longer than any
+/// that is lent here is as long as the longest.
+fn stored_case(kind: u8, case: &[u8]) -> Option<Vec<Case>> {
+    let room = |low, high| LONGEST.min(u16::from_le_bytes([low, high]) as usize);
+    Some(match kind {
+        b's' => stored_stream(case).into(),
+        b'r' => vec![Case::Report(case.to_vec())],
+        b'l' => {
+            let (&[l0, l1], rest) = case.split_first_chunk()?;
+            let (settings, wide) = stored_settings(rest)?;
+            let out = room(l0, l1);
+            vec![Case::List {
+                settings,
+                wide,
+                out,
+            }]
+        }
+        b'e' => {
+            let (&[cmd1, cmd2, l0, l1], rest) = case.split_first_chunk()?;
+            let (settings, wide) = stored_settings(rest)?;
+            vec![Case::Encode {
+                cmd: [cmd1, cmd2],
+                settings,
+                wide,
+                out: room(l0, l1),
+            }]
+        }
+        b'g' => stored_row(case)?,
+        _ => return None,
+    })
+}
+
+/// The stored cases of a file.
 fn stored(file: &str) -> Result<Vec<Case>, String> {
     let bytes = std::fs::read(file).map_err(|why| format!("{file}: {why}"))?;
     let mut cases = Vec::new();
@@ -922,38 +1015,8 @@ fn stored(file: &str) -> Result<Vec<Case>, String> {
         let length = u32::from_le_bytes([l0, l1, l2, l3]) as usize;
         let case = after.get(..length).ok_or(format!("{file}: cut short"))?;
         rest = &after[length..];
-        let front = match kind {
-            b'l' => Some(2),
-            b'e' => Some(4),
-            _ => None,
-        };
-        if front.is_some_and(|front| length != front + size_of::<Settings>()) {
-            return Err(format!("{file}: a case of another length"));
-        }
-        let settings = |at| Settings(case[at..].try_into().expect("settings"));
-        let room = |at| LONGEST.min(u16::from_le_bytes([case[at], case[at + 1]]) as usize);
-        match kind {
-            b's' => cases.extend([ALL, 1].map(|cut| {
-                let mut stream = single(case.to_vec(), 64);
-                if let Case::Stream(stream) = &mut stream {
-                    stream.cuts = vec![cut];
-                }
-                stream
-            })),
-            b'r' => cases.push(Case::Report(case.to_vec())),
-            b'l' => cases.push(Case::List {
-                settings: settings(2),
-                wide: Wide::default(),
-                out: room(0),
-            }),
-            b'e' => cases.push(Case::Encode {
-                cmd: [case[0], case[1]],
-                settings: settings(4),
-                wide: Wide::default(),
-                out: room(2),
-            }),
-            _ => return Err(format!("{file}: a case of no known kind")),
-        }
+        let tried = stored_case(kind, case);
+        cases.extend(tried.ok_or(format!("{file}: a case of no known kind or another length"))?);
     }
     if !rest.is_empty() || cases.is_empty() {
         return Err(format!("{file}: cut short"));

@@ -1,11 +1,14 @@
 // Runs the stored cases and prints what the library answers; `rt` holds that to the file `stdout`.
 // The file `01` has the cases of document 01: 700 packets, each after some bytes sent before, 400
 // streams of host bytes, 51 streams for the packet layer, and 507 reports. The file `02` has those of
-// request 2: 220 streams, 233 reports, 200 standard lists and 199 packets of the encoder. A case is a
-// row: its kind in a byte, its length in four, least significant first, and its bytes.
+// request 2: 220 streams, 233 reports, 200 standard lists and 199 packets of the encoder. The file `03`
+// tries each row of the guide's tables of parameter values at its limits and just past them, 521 cases. A
+// case is a row: its kind in a byte, its length in four, least significant first, and its bytes.
 // `scripts/vectors-data` makes the cases and the expected text from the vectors and the papers, and
 // nothing of it comes from this program. What is proved of the program is that it is safe and ends.
 mod emit;
+mod fields;
+mod guide;
 mod said;
 mod stream;
 
@@ -46,6 +49,7 @@ fn case(kind: u8, b: &[u8]) {
         b'r' => report(b),
         b'l' => emit::list(b),
         b'e' => emit::packet(b),
+        b'g' => guide::tell(b),
         _ => text(b" of no known kind\n"),
     }
 }
@@ -87,4 +91,5 @@ fn file(name: &[u8]) {
 fn main() {
     file(b"01");
     file(b"02");
+    file(b"03");
 }

@@ -29,6 +29,14 @@ pub struct Said {
 }
 
 impl Said {
+    // Nothing so far, and all that is to come is printed.
+    pub fn aloud() -> Said {
+        Said {
+            aloud: true,
+            digest: 0,
+        }
+    }
+
     pub fn hex(mut self, n: u64) -> Said {
         if self.aloud {
             io::print_hex(STDOUT_FILENO, n, 2);

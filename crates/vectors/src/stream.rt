@@ -1,6 +1,7 @@
 // A stream of host bytes to a fresh controller: the sizes of its packets, the responses, how many bytes
 // of an unfinished packet have come in, the open transfer, and the standard list of the end settings.
-// It is run byte by byte, whole, and cut in two at each place; the digest tells whether all agree.
+// It is run byte by byte, whole, and cut in two at each place; the digest tells whether all agree. A row
+// of the guide asks for the responses alone.
 use crate::said::Said;
 use crate::said::further;
 use crate::said::number;
@@ -71,8 +72,14 @@ fn piece_end(at: usize, cut: usize, size: usize, n: usize) -> usize
     if at < cut { cut } else { further(at, size, n) }
 }
 
-// A run over b in such pieces. The last call takes nothing: at the end of b it is lent no bytes.
-fn feed(mut said: Said, b: &[u8], cut: usize, size: usize) -> Said
+// What has been said once all is fed, and the controller as it is then.
+struct Fed {
+    said: Said,
+    controller: Controller,
+}
+
+// Feeds b in such pieces. The last call takes nothing: at the end of b it is lent no bytes.
+fn feed(mut said: Said, b: &[u8], cut: usize, size: usize) -> Fed
     requires { ⌜ cut ≤ length (now b) ⌝ }
 {
     let mut c = Controller::fresh();
@@ -86,25 +93,41 @@ fn feed(mut said: Said, b: &[u8], cut: usize, size: usize) -> Said
         said = respond(said, answer, &out);
         let next = further(at, taken_by(answer), end);
         if next == at {
-            return finish(said, c);
+            return Fed {
+                said,
+                controller: c,
+            };
         }
         at = next;
     }
 }
 
+fn run(said: Said, b: &[u8], cut: usize, size: usize) -> Said
+    requires { ⌜ cut ≤ length (now b) ⌝ }
+{
+    let fed = feed(said, b, cut, size);
+    let c = fed.controller;
+    finish(fed.said, c)
+}
+
 // The runs: byte by byte and aloud, then cut at each place. Cut at place 0, b is whole.
 fn runs(b: &[u8]) -> u32 {
-    let aloud = Said {
-        aloud: true,
-        digest: 0,
-    };
-    let mut said = feed(aloud, b, 0, 1);
+    let mut said = run(Said::aloud(), b, 0, 1);
     said.aloud = false;
     let cuts = further(0, PLACES, b.len()) + 1;
     for k in 0..cuts {
-        said = feed(said, b, k, b.len());
+        said = run(said, b, k, b.len());
     }
     said.digest
+}
+
+// The responses to a stream that is given whole.
+pub fn responses(b: &[u8]) {
+    if b.len() == 0 {
+        text(b" -");
+        return;
+    }
+    feed(Said::aloud(), b, 0, b.len());
 }
 
 pub fn tell(b: &[u8]) {
