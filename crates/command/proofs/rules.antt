@@ -1,2 +1,3 @@
 -- The laws of rules.
 pub mod Laws
+pub mod Rows

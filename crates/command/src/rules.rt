@@ -1,5 +1,8 @@
-// The column "allowed" of the table of commands, a function for each line, and what follows from it for a write and for the settings.
+// The value checks, laid out like the guide's pages (DLPU007D, sections 3.2 to 3.11): a check for each
+// command in the guide's order, below it the rows of its table, and an arm for each value or range that a
+// row prints. What no row prints is not allowed. Then what follows from them for a write and the settings.
 use crate::settings::DisplaySetting;
+use crate::settings::Drive;
 use crate::settings::LedCurrent;
 use crate::settings::PATTERN_SEQUENCE_MODE;
 use crate::settings::PatternSequence;
@@ -8,115 +11,295 @@ use crate::settings::StaticColour;
 use crate::settings::VideoInput;
 use crate::settings::VideoMode;
 use crate::value::Value;
-ghost use Prim.Native.Nat.{_<_};
+ghost use Prim.Native.Nat.{_/_, _%_, _<_};
 ghost use mathlib.Core.Path.{_≡_};
 ghost use mathlib.Core.List.{[], _∷_};
 ghost use Rattle.command.specs.Fields.{currentValues, colourValues, settingValues, inputValues, videoValues, sequenceValues};
-ghost use lib.Dec.{leb};
-ghost use Rattle.command.specs.Rules.{mostPatterns, allowed as allowedIn, blocked as blockedIn, settingsInRule};
+ghost use mathlib.Core.Bool.{not, _&&_, _||_};
+ghost use lib.Dec.{eqb, leb};
+ghost use Rattle.command.specs.Rules.{listed, mostPatterns, oneOf, pairs, within, allowed as allowedIn, blocked as blockedIn, settingsInRule};
 ghost use Rattle.command.specs.declared.table.Command.the-variants as command;
 ghost use Rattle.command.specs.Value.{commandIn, valuesIn};
 
-// 01 01: 3 is reserved.
+// 3.2 Current Display Mode (01 01), Table 3, Byte 0.
 fn display_mode(m: u8) -> bool
     ensures { λ r. ⌜ r ≡ allowedIn command.DisplayMode (m ∷ []) ⌝ }
 {
-    (m == 0) | (m == 1) | (m == 2) | (m == 4)
+    match m {
+        0x00 => true, // Static Image
+        0x01 => true, // Internal Test Pattern
+        0x02 => true, // HDMI Video Input
+        0x03 => false, // Reserved
+        0x04 => true, // Pattern Sequence Display
+        _ => false,
+    }
 }
 
-// 01 03
+// 3.3 Current Test Pattern (01 03), Table 4, Byte 0.
 fn test_pattern(p: u8) -> bool
     ensures { λ r. ⌜ r ≡ allowedIn command.TestPattern (p ∷ []) ⌝ }
 {
-    p <= 13
+    match p {
+        0x00 => true, // 14x8 Checkerboard (default)
+        0x01 => true, // Solid black
+        0x02 => true, // Solid white
+        0x03 => true, // Solid green
+        0x04 => true, // Solid blue
+        0x05 => true, // Solid red
+        0x06 => true, // Vertical lines (1-white, 7-black)
+        0x07 => true, // Horizontal lines (1-white, 7-black)
+        0x08 => true, // Vertical lines (1-white, 1-black)
+        0x09 => true, // Horizontal lines (1-white, 1-black)
+        0x0A => true, // Diagonal lines
+        0x0B => true, // Vertical Gray Ramps
+        0x0C => true, // Horizontal Gray Ramps
+        0x0D => true, // ANSI 4×4 Checkerboard
+        _ => false,
+    }
 }
 
-// 01 04: each colour's current.
+// 3.4 LED Current Setting (01 04), Table 5.
 fn led_current(q: LedCurrent) -> bool
     ensures { λ r. ⌜ r ≡ allowedIn command.LedCurrent (currentValues q) ⌝ }
 {
-    (q.red.0 <= 1024) & (q.green.0 <= 1024) & (q.blue.0 <= 1024)
+    // Byte 0 - Byte 1: Red LED current
+    drive(q.red)
+        // Byte 2 - Byte 3: Green LED current
+        && drive(q.green)
+        // Byte 4 - Byte 5: Blue LED current
+        && drive(q.blue)
 }
 
-// 01 06: any colour; the last byte is 0.
+// Each row of Table 5.
+fn drive(current: Drive) -> bool
+    ensures { λ r. ⌜ r ≡ leb (current .0) 1024 ⌝ }
+{
+    let counts = current.0;
+    match counts {
+        0..=1024 => true, // Range 0 - 1024
+        _ => false,
+    }
+}
+
+// Static Color (01 06), Table 7, Byte 0 - Byte 3: 24 bit Color in 00RRGGBB format.
 fn static_colour(q: StaticColour) -> bool
     ensures { λ r. ⌜ r ≡ allowedIn command.StaticColour (colourValues q) ⌝ }
 {
-    q.last == 0
+    // BB, GG and RR, which come first, are any value.
+    let last = q.last;
+    match last {
+        0x00 => true, // the 00 before RR
+        _ => false,
+    }
 }
 
-// 01 07: each is on or off.
+// 3.6 Display Setting (01 07), Table 8.
 fn display_setting(q: DisplaySetting) -> bool
     ensures { λ r. ⌜ r ≡ allowedIn command.DisplaySetting (settingValues q) ⌝ }
 {
-    (q.long <= 1) & (q.short <= 1) & (q.rotate <= 1)
+    // Byte 0
+    long_axis(q.long)
+        // Byte 1
+        && short_axis(q.short)
+        // Byte 2
+        && rotation(q.rotate)
 }
 
-// An X and a Y of 02 00.
-struct Pair {
+// Table 8, Byte 0: Flip image on long axis.
+fn long_axis(flip: u8) -> bool
+    ensures { λ r. ⌜ r ≡ leb flip 1 ⌝ }
+{
+    match flip {
+        0 => true, // No flip (default)
+        1 => true, // Flip on long axis
+        _ => false,
+    }
+}
+
+// Table 8, Byte 1: Flip image on short axis.
+fn short_axis(flip: u8) -> bool
+    ensures { λ r. ⌜ r ≡ leb flip 1 ⌝ }
+{
+    match flip {
+        0 => true, // No flip
+        1 => true, // Flip on short axis (default)
+        _ => false,
+    }
+}
+
+// Table 8, Byte 2: Rotate image by -90 degrees.
+fn rotation(rotate: u16) -> bool
+    ensures { λ r. ⌜ r ≡ leb rotate 1 ⌝ }
+{
+    match rotate {
+        0 => true, // No rotation (default)
+        1 => true, // Rotate image by -90 degrees
+        _ => false,
+    }
+}
+
+// 3.7 Video Input Setting (02 00), Table 9.
+fn video_input(q: VideoInput) -> bool
+    ensures { λ r. ⌜ r ≡ allowedIn command.VideoInput (inputValues q) ⌝ }
+{
+    // Byte 0 - Byte 1: Input Resolution X. Byte 2 - Byte 3: Input Resolution Y
+    supported(q.x, q.y)
+    // Byte 4 - Byte 5: First Active Pixel, any value
+    // Byte 6 - Byte 7: First Active Line, any value
+    // Byte 8 - Byte 9: Active Width, any value
+    // Byte 10 - Byte 11: Active Height, any value
+}
+
+// An entry of Table 10, X × Y.
+struct Resolution {
     x: u16,
     y: u16,
 }
 
-// The listed pairs.
-const PAIRS: [Pair; 26] = [
-    Pair { x: 240, y: 320 },
-    Pair { x: 320, y: 240 },
-    Pair { x: 240, y: 427 },
-    Pair { x: 427, y: 240 },
-    Pair { x: 430, y: 640 },
-    Pair { x: 640, y: 430 },
-    Pair { x: 480, y: 640 },
-    Pair { x: 640, y: 480 },
-    Pair { x: 480, y: 720 },
-    Pair { x: 720, y: 480 },
-    Pair { x: 480, y: 752 },
-    Pair { x: 752, y: 480 },
-    Pair { x: 480, y: 800 },
-    Pair { x: 800, y: 480 },
-    Pair { x: 480, y: 852 },
-    Pair { x: 852, y: 480 },
-    Pair { x: 480, y: 853 },
-    Pair { x: 853, y: 480 },
-    Pair { x: 480, y: 854 },
-    Pair { x: 854, y: 480 },
-    Pair { x: 864, y: 480 },
-    Pair { x: 720, y: 240 },
-    Pair { x: 720, y: 288 },
-    Pair { x: 360, y: 640 },
-    Pair { x: 640, y: 360 },
-    Pair { x: 608, y: 684 },
+// Table 10. Supported Resolutions for Video Input, line by line as printed.
+const SUPPORTED_RESOLUTIONS: [Resolution; 26] = [
+    // line 1
+    Resolution { x: 240, y: 320 },
+    Resolution { x: 640, y: 480 },
+    Resolution { x: 480, y: 852 },
+    Resolution { x: 864, y: 480 },
+    // line 2
+    Resolution { x: 320, y: 240 },
+    Resolution { x: 480, y: 720 },
+    Resolution { x: 852, y: 480 },
+    Resolution { x: 720, y: 240 },
+    // line 3
+    Resolution { x: 240, y: 427 },
+    Resolution { x: 720, y: 480 },
+    Resolution { x: 480, y: 853 },
+    Resolution { x: 720, y: 288 },
+    // line 4
+    Resolution { x: 427, y: 240 },
+    Resolution { x: 480, y: 752 },
+    Resolution { x: 853, y: 480 },
+    Resolution { x: 360, y: 640 },
+    // line 5 (continued)
+    Resolution { x: 430, y: 640 },
+    Resolution { x: 752, y: 480 },
+    // 480×853, again
+    Resolution { x: 640, y: 360 },
+    // line 6
+    Resolution { x: 640, y: 430 },
+    Resolution { x: 480, y: 800 },
+    Resolution { x: 854, y: 480 },
+    // 854×480, again
+    // line 7
+    Resolution { x: 480, y: 640 },
+    Resolution { x: 800, y: 480 },
+    Resolution { x: 480, y: 854 },
+    Resolution { x: 608, y: 684 },
 ];
 
-// 02 00: X and Y are a listed pair. The factory's stands last, and is tried first.
-fn video_input(q: VideoInput) -> bool
-    ensures { λ r. ⌜ r ≡ allowedIn command.VideoInput (inputValues q) ⌝ }
+// X and Y in one number, from which both can be had again: one comparison tells two resolutions apart.
+fn packed(x: u16, y: u16) -> u32
+    ensures { λ r. ⌜ (r / 65536 ≡ x) × (r % 65536 ≡ y) ⌝ }
 {
-    let x = q.x;
-    let y = q.y;
-    let pairs = PAIRS;
-    let mut k = pairs.len();
+    x as u32 * 65536 + y as u32
+}
+
+// Both stand in Table 10. The factory's stands last there, and is tried first.
+fn supported(x: u16, y: u16) -> bool
+    ensures { λ r. ⌜ r ≡ listed x y pairs ⌝ }
+{
+    let input = packed(x, y);
+    let table = SUPPORTED_RESOLUTIONS;
+    let mut k = table.len();
     while 0 < k {
         k -= 1;
-        let p = pairs[k];
-        if (x == p.x) & (y == p.y) {
+        let entry = table[k];
+        if input == packed(entry.x, entry.y) {
             return true;
         }
     }
     false
 }
 
-// 02 01: frame rate, depth, LED.
+// 3.8 Video Mode Setting (02 01), Table 11.
 fn video_mode(q: VideoMode) -> bool
     ensures { λ r. ⌜ r ≡ allowedIn command.VideoMode (videoValues q) ⌝ }
 {
-    ((q.rate == 15) | (q.rate == 30) | (q.rate == 40) | (q.rate == 50) | (q.rate == 60))
-        & ((1 <= q.depth) & (q.depth <= 8))
-        & ((1 <= q.led) & (q.led <= 4))
+    // Byte 0
+    frame_rate(q.rate)
+        // Byte 1
+        && bit_depth(q.depth)
+        // Byte 2
+        && video_led(q.led)
 }
 
-// At most 1 + 95 / depth patterns, said by a product: not every processor can divide, and damaged memory
-// may have a depth of 0, which its own rule refuses.
+// Table 11, Byte 0: Frame Rate 15, 30, 40, 50, or 60 Hz.
+fn frame_rate(rate: u8) -> bool
+    ensures { λ r. ⌜ r ≡ oneOf rate (15 ∷ 30 ∷ 40 ∷ 50 ∷ 60 ∷ []) ⌝ }
+{
+    match rate {
+        15 => true,
+        30 => true,
+        40 => true,
+        50 => true,
+        60 => true, // Default is 60 Hz
+        _ => false,
+    }
+}
+
+// Table 11, Byte 1: Bit Depth. Table 12, Byte 0: Pattern bit depth.
+fn bit_depth(depth: u8) -> bool
+    ensures { λ r. ⌜ r ≡ within 1 8 depth ⌝ }
+{
+    match depth {
+        1..=8 => true, // Range 1 - 8
+        _ => false,
+    }
+}
+
+// Table 11, Byte 2.
+fn video_led(led: u16) -> bool
+    ensures { λ r. ⌜ r ≡ within 1 4 led ⌝ }
+{
+    match led {
+        1 => true, // RGB: Uses Red, Green, and Blue LEDs for full color (default)
+        2 => true, // Monochrome Red LED
+        3 => true, // Monochrome Green LED
+        4 => true, // Monochrome Blue LED
+        _ => false,
+    }
+}
+
+// 3.9 Pattern Sequence Setting (04 00), Table 12.
+fn pattern_sequence(q: PatternSequence) -> bool
+    ensures { λ r. ⌜ r ≡ allowedIn command.PatternSequence (sequenceValues q) ⌝ }
+{
+    // Byte 0
+    bit_depth(q.depth)
+        // Byte 1
+        && pattern_count(q.depth, q.count)
+        // Byte 2
+        && inversion(q.depth, q.inversion)
+        // Byte 3
+        && trigger(q.depth, q.trigger)
+        // Byte 4 - Byte 7: Input Trigger Delay, any value
+        // Byte 8 - Byte 11: Trigger Period, any value
+        // Byte 12 - Byte 15: Exposure Time, any value
+        // Byte 16
+        && led_select(q.led)
+}
+
+// Table 12, Byte 1: Number of patterns in the sequence.
+fn pattern_count(depth: u8, count: u8) -> bool
+    ensures { λ r. ⌜ (0 < depth → r ≡ within 1 (mostPatterns depth) count) ⌝ }
+{
+    match count {
+        1..=96 => count_in_limit(depth, count), // (1 - 96)
+        _ => false,
+    }
+}
+
+// 3.10 Pattern Definition, Table 13, Byte 0: Pattern Number (0 - 95/BitsPerPattern). So there are at most
+// 1 + 95 / depth, said by a product: not every processor can divide, and damaged memory may have a depth
+// of 0, which its own rule refuses.
 fn count_in_limit(depth: u8, count: u8) -> bool
     ensures { λ r. ⌜ (0 < depth → r ≡ leb count (mostPatterns depth)) ⌝ }
 {
@@ -124,22 +307,55 @@ fn count_in_limit(depth: u8, count: u8) -> bool
     count as u32 * bits <= 95 + bits
 }
 
-// 04 00: inversion, and trigger 6, only at depth 1.
-fn pattern_sequence(q: PatternSequence) -> bool
-    ensures { λ r. ⌜ r ≡ allowedIn command.PatternSequence (sequenceValues q) ⌝ }
+// Table 12, Byte 2: Include inverted patterns (only applicable for 1 bit patterns).
+fn inversion(depth: u8, inverted: u8) -> bool
+    ensures { λ r. ⌜ r ≡ (leb inverted 2 && (eqb inverted 0 || eqb depth 1)) ⌝ }
 {
-    ((1 <= q.depth) & (q.depth <= 8))
-        & ((1 <= q.count) & count_in_limit(q.depth, q.count))
-        & ((q.inversion <= 2) & ((q.inversion == 0) | (q.depth == 1)))
-        & ((q.trigger <= 6) & ((q.trigger != 6) | (q.depth == 1)))
-        & (q.led <= 2)
+    match inverted {
+        0 => true, // Every pattern is displayed
+        1 => depth == 1, // Each pattern is displayed and followed by its inverted pattern
+        2 => depth == 1, // Use Internally Generated 1 bpp Patterns
+        _ => false,
+    }
 }
 
-// 04 02
+// Table 12, Byte 3: Input trigger type.
+fn trigger(depth: u8, input: u8) -> bool
+    ensures { λ r. ⌜ r ≡ (leb input 6 && (not (eqb input 6) || eqb depth 1)) ⌝ }
+{
+    match input {
+        0 => true, // Command Trigger (Through Current Pattern Command)
+        1 => true, // Auto Trigger
+        2 => true, // External Trigger (Positive Polarity)
+        3 => true, // External Trigger (Negative Polarity)
+        4 => true, // Camera Trigger (Positive Polarity)
+        5 => true, // Camera Trigger (Negative Polarity)
+        6 => depth == 1, // External Trigger + Exposure (only for 1-bit depth mode)
+        _ => false,
+    }
+}
+
+// Table 12, Byte 16: LED Select.
+fn led_select(led: u32) -> bool
+    ensures { λ r. ⌜ r ≡ leb led 2 ⌝ }
+{
+    match led {
+        0 => true, // Red
+        1 => true, // Green
+        2 => true, // Blue
+        _ => false,
+    }
+}
+
+// 3.11 Start Pattern Sequence (04 02), Table 16, Byte 0.
 fn sequence_run(r: u32) -> bool
     ensures { λ a. ⌜ a ≡ allowedIn command.SequenceRun (r ∷ []) ⌝ }
 {
-    r <= 1
+    match r {
+        0 => true, // Stop Pattern Sequence
+        1 => true, // Start Pattern Sequence
+        _ => false,
+    }
 }
 
 // The values of a write are allowed.
@@ -165,22 +381,23 @@ pub(crate) fn blocked(v: Value, mode: u8) -> bool
 {
     match v {
         Value::SequenceRun(r) => (r == 1) & (mode != PATTERN_SEQUENCE_MODE),
-        _ => false,
+        _ => false, // no other command needs a mode
     }
 }
 
-// Every setting is allowed, and run is not 1 outside mode 4.
+// Every setting is allowed, and run is not 1 outside mode 4. The video input comes last: its check is a
+// call of its own, across which nothing has to be kept then.
 pub(crate) fn settings_in_rule(s: Settings) -> bool
     ensures { λ r. ⌜ r ≡ settingsInRule s ⌝ }
 {
     display_mode(s.mode)
-        & test_pattern(s.pattern)
-        & led_current(s.current)
-        & static_colour(s.colour)
-        & display_setting(s.setting)
-        & video_input(s.input)
-        & video_mode(s.video)
-        & pattern_sequence(s.sequence)
-        & sequence_run(s.run)
-        & !blocked(Value::SequenceRun(s.run), s.mode)
+        && test_pattern(s.pattern)
+        && led_current(s.current)
+        && static_colour(s.colour)
+        && display_setting(s.setting)
+        && video_mode(s.video)
+        && pattern_sequence(s.sequence)
+        && sequence_run(s.run)
+        && !blocked(Value::SequenceRun(s.run), s.mode)
+        && video_input(s.input)
 }

@@ -1,0 +1,59 @@
+-- A row of the guide, a `match` on the values that it prints, and rows one after another: what the last arm knows of the value, and what `&&` makes of the rows.
+use Prim.Native.Nat.{ℕ, zero, suc, _+_, _≤_, _<_}
+use mathlib.Core.Path.{_≡_, refl, sym, _∙_}
+use mathlib.Core.Logic.{_⊎_, inl, inr}
+use mathlib.Core.Bool.{Bool, true, false, _&&_, and-false}
+use mathlib.Core.List.{List, [], _∷_}
+use native.Mathlib.Omega.{arith}
+use lib.Dec.{eqb, leb}
+use borrow.Author.Tests.{eqb-false, ne-eqb, le-leb, lt-leb}
+use Rattle.packet.proofs.Cases.{lt-cases, and-both, or-left, or-right}
+use Rattle.command.specs.Rules.{oneOf, within}
+
+-- the value is none of those that have an arm of their own
+abbrev pub Rest : Type 0 → List ℕ → ℕ → Type 0
+Rest N [] v = N
+Rest N (k ∷ ks) v = Rest (N × (v ≡ k → ⊥)) ks v
+
+passed : (N : Type 0) (ks : List ℕ) (v : ℕ) → Rest N ks v → (oneOf v ks ≡ false) × N
+passed N [] v h = (refl, h)
+passed N (k ∷ ks) v h = let p = passed (N × (v ≡ k → ⊥)) ks v h in (rw (ne-eqb v k (p .1 .1)) (p .0), p .1 .0)
+
+pub none : (ks : List ℕ) (v : ℕ) → Rest Unit ks v → oneOf v ks ≡ false
+none ks v h = passed Unit ks v h .0
+
+-- so many values from one on
+abbrev pub run : ℕ → ℕ → List ℕ
+run k zero = []
+run k (suc n) = k ∷ run (suc k) n
+
+after : (k n v : ℕ) → oneOf v (run k n) ≡ false → k ≤ v → k + n ≤ v
+after k zero v h l = omega (arith, l)
+after k (suc n) v h l =
+    let d = eqb-false v k (or-left (eqb v k) _ h) in
+    let m = after (suc k) n v (or-right (eqb v k) _ h) (omega (arith, l, d)) in omega (arith, m)
+
+-- with an arm for each value from 0 to a limit it is over the limit
+pub over : (limit v : ℕ) → Rest Unit (run 0 (suc limit)) v → leb v limit ≡ false
+over limit v h = lt-leb v limit (let l = after 0 (suc limit) v (none (run 0 (suc limit)) v h) (omega arith) in omega (arith, l))
+
+-- a range has the values from its first to its last
+pub inside : (first last v : ℕ) → first ≤ v → v ≤ last → within first last v ≡ true
+inside first last v l m = and-both _ _ (le-leb first v l) (le-leb v last m)
+
+pub below : (first last v : ℕ) → v < first → within first last v ≡ false
+below first last v h = rw (lt-leb first v h)
+
+pub beyond : (first last v : ℕ) → last < v → within first last v ≡ false
+beyond first last v h = rw (lt-leb v last h, and-false)
+
+-- and so has an arm for each of them
+pub outside : (first n v : ℕ) → Rest Unit (run first (suc n)) v → within first (first + n) v ≡ false
+outside first n v h =
+    lt-cases v first (below first (first + n) v)
+    (λ l. beyond first (first + n) v (let m = after first (suc n) v (none (run first (suc n)) v h) l in omega (arith, m)))
+
+-- Where one test follows another by `&&`: t is what the tests before say, whose rule is A, and f what comes out. On one way t holds and the next test decides, by its rule B; on the other t fails and stands.
+pub meets : {t f A B : Bool} {X Y : Type 0} → t ≡ A → (X → (t ≡ true) × (f ≡ B)) → (Y → (t ≡ false) × (f ≡ t)) → X ⊎ Y → f ≡ (A && B)
+meets e g h (inl x) = let w = g x in rw (sym e ∙ w .0) (w .1)
+meets e g h (inr y) = let w = h y in rw (sym e ∙ w .0) (w .1 ∙ w .0)
