@@ -62,25 +62,26 @@ fn test_pattern(p: u8) -> bool
 fn led_current(q: LedCurrent) -> bool
     ensures { λ r. ⌜ r ≡ allowedIn command.LedCurrent (currentValues q) ⌝ }
 {
-    // Byte 0 - Byte 1: Red LED current
+    // Byte 0 - Byte 1: Red LED current.
     drive(q.red)
-        // Byte 2 - Byte 3: Green LED current
+        // Byte 2 - Byte 3: Green LED current.
         && drive(q.green)
-        // Byte 4 - Byte 5: Blue LED current
+        // Byte 4 - Byte 5: Blue LED current.
         && drive(q.blue)
 }
 
-// Each row of Table 5.
+// Each row of Table 5: Range 0 - 1024. Default 274.
 fn drive(current: Drive) -> bool
     ensures { λ r. ⌜ r ≡ leb (current .0) 1024 ⌝ }
 {
     let counts = current.0;
     match counts {
-        0..=1024 => true, // Range 0 - 1024
+        0..=1024 => true,
         _ => false,
     }
 }
 
+// 3.5 is the static image, 01 05, which this build leaves out. Below it and without a number of its own:
 // Static Color (01 06), Table 7, Byte 0 - Byte 3: 24 bit Color in 00RRGGBB format.
 fn static_colour(q: StaticColour) -> bool
     ensures { λ r. ⌜ r ≡ allowedIn command.StaticColour (colourValues q) ⌝ }
@@ -97,15 +98,15 @@ fn static_colour(q: StaticColour) -> bool
 fn display_setting(q: DisplaySetting) -> bool
     ensures { λ r. ⌜ r ≡ allowedIn command.DisplaySetting (settingValues q) ⌝ }
 {
-    // Byte 0
+    // Byte 0: Flip image on long axis.
     long_axis(q.long)
-        // Byte 1
+        // Byte 1: Flip image on short axis.
         && short_axis(q.short)
-        // Byte 2
+        // Byte 2: Rotate image by -90 degrees.
         && rotation(q.rotate)
 }
 
-// Table 8, Byte 0: Flip image on long axis.
+// Table 8, Byte 0.
 fn long_axis(flip: u8) -> bool
     ensures { λ r. ⌜ r ≡ leb flip 1 ⌝ }
 {
@@ -116,7 +117,7 @@ fn long_axis(flip: u8) -> bool
     }
 }
 
-// Table 8, Byte 1: Flip image on short axis.
+// Table 8, Byte 1.
 fn short_axis(flip: u8) -> bool
     ensures { λ r. ⌜ r ≡ leb flip 1 ⌝ }
 {
@@ -127,7 +128,7 @@ fn short_axis(flip: u8) -> bool
     }
 }
 
-// Table 8, Byte 2: Rotate image by -90 degrees.
+// Table 8, Byte 2.
 fn rotation(rotate: u16) -> bool
     ensures { λ r. ⌜ r ≡ leb rotate 1 ⌝ }
 {
@@ -142,12 +143,12 @@ fn rotation(rotate: u16) -> bool
 fn video_input(q: VideoInput) -> bool
     ensures { λ r. ⌜ r ≡ allowedIn command.VideoInput (inputValues q) ⌝ }
 {
-    // Byte 0 - Byte 1: Input Resolution X. Byte 2 - Byte 3: Input Resolution Y
+    // Byte 0 - Byte 1: Input Resolution X. Byte 2 - Byte 3: Input Resolution Y.
     supported(q.x, q.y)
-    // Byte 4 - Byte 5: First Active Pixel, any value
-    // Byte 6 - Byte 7: First Active Line, any value
-    // Byte 8 - Byte 9: Active Width, any value
-    // Byte 10 - Byte 11: Active Height, any value
+    // Byte 4 - Byte 5: First Active Pixel (Input cropping). Any value.
+    // Byte 6 - Byte 7: First Active Line (Input cropping). Any value.
+    // Byte 8 - Byte 9: Active Width (Input cropping). Any value.
+    // Byte 10 - Byte 11: Active Height (Input cropping). Any value.
 }
 
 // An entry of Table 10, X × Y.
@@ -202,7 +203,7 @@ fn packed(x: u16, y: u16) -> u32
     x as u32 * 65536 + y as u32
 }
 
-// Both stand in Table 10. The factory's stands last there, and is tried first.
+// X × Y is an entry of Table 10. The factory's stands last, and is tried first.
 fn supported(x: u16, y: u16) -> bool
     ensures { λ r. ⌜ r ≡ listed x y pairs ⌝ }
 {
@@ -223,15 +224,15 @@ fn supported(x: u16, y: u16) -> bool
 fn video_mode(q: VideoMode) -> bool
     ensures { λ r. ⌜ r ≡ allowedIn command.VideoMode (videoValues q) ⌝ }
 {
-    // Byte 0
+    // Byte 0: Frame Rate 15, 30, 40, 50, or 60 Hz.
     frame_rate(q.rate)
-        // Byte 1
+        // Byte 1: Bit Depth. Range 1 - 8. (default is 8)
         && bit_depth(q.depth)
         // Byte 2
         && video_led(q.led)
 }
 
-// Table 11, Byte 0: Frame Rate 15, 30, 40, 50, or 60 Hz.
+// Table 11, Byte 0.
 fn frame_rate(rate: u8) -> bool
     ensures { λ r. ⌜ r ≡ oneOf rate (15 ∷ 30 ∷ 40 ∷ 50 ∷ 60 ∷ []) ⌝ }
 {
@@ -245,12 +246,12 @@ fn frame_rate(rate: u8) -> bool
     }
 }
 
-// Table 11, Byte 1: Bit Depth. Table 12, Byte 0: Pattern bit depth.
+// Table 11, Byte 1, and Table 12, Byte 0.
 fn bit_depth(depth: u8) -> bool
     ensures { λ r. ⌜ r ≡ within 1 8 depth ⌝ }
 {
     match depth {
-        1..=8 => true, // Range 1 - 8
+        1..=8 => true,
         _ => false,
     }
 }
@@ -272,27 +273,28 @@ fn video_led(led: u16) -> bool
 fn pattern_sequence(q: PatternSequence) -> bool
     ensures { λ r. ⌜ r ≡ allowedIn command.PatternSequence (sequenceValues q) ⌝ }
 {
-    // Byte 0
+    // Byte 0: Pattern bit depth (1 - 8).
     bit_depth(q.depth)
-        // Byte 1
+        // Byte 1: Number of patterns in the sequence (1 - 96).
         && pattern_count(q.depth, q.count)
-        // Byte 2
+        // Byte 2: Include inverted patterns (only applicable for 1 bit patterns).
         && inversion(q.depth, q.inversion)
-        // Byte 3
+        // Byte 3: Input trigger type.
         && trigger(q.depth, q.trigger)
-        // Byte 4 - Byte 7: Input Trigger Delay, any value
-        // Byte 8 - Byte 11: Trigger Period, any value
-        // Byte 12 - Byte 15: Exposure Time, any value
-        // Byte 16
+        // Byte 4 - Byte 7: Input Trigger Delay in micro seconds. Any value.
+        // Byte 8 - Byte 11: Trigger Period in micro second (only for Auto Trigger mode). Any value, whatever
+        // the trigger: document 01 asks nothing of it.
+        // Byte 12 - Byte 15: Exposure Time in micro seconds. Any value.
+        // Byte 16: LED Select.
         && led_select(q.led)
 }
 
-// Table 12, Byte 1: Number of patterns in the sequence.
+// Table 12, Byte 1.
 fn pattern_count(depth: u8, count: u8) -> bool
     ensures { λ r. ⌜ (0 < depth → r ≡ within 1 (mostPatterns depth) count) ⌝ }
 {
     match count {
-        1..=96 => count_in_limit(depth, count), // (1 - 96)
+        1..=96 => count_in_limit(depth, count),
         _ => false,
     }
 }
@@ -307,19 +309,22 @@ fn count_in_limit(depth: u8, count: u8) -> bool
     count as u32 * bits <= 95 + bits
 }
 
-// Table 12, Byte 2: Include inverted patterns (only applicable for 1 bit patterns).
+// Table 12, Byte 2.
 fn inversion(depth: u8, inverted: u8) -> bool
     ensures { λ r. ⌜ r ≡ (leb inverted 2 && (eqb inverted 0 || eqb depth 1)) ⌝ }
 {
     match inverted {
-        0 => true, // Every pattern is displayed
-        1 => depth == 1, // Each pattern is displayed and followed by its inverted pattern
-        2 => depth == 1, // Use Internally Generated 1 bpp Patterns
+        // Every pattern is displayed
+        0 => true,
+        // Each pattern is displayed and followed by its inverted pattern before the next pattern is displayed
+        1 => depth == 1,
+        // Use Internally Generated 1 bpp Patterns. Refer to command (0x04 0x06) for more details
+        2 => depth == 1,
         _ => false,
     }
 }
 
-// Table 12, Byte 3: Input trigger type.
+// Table 12, Byte 3.
 fn trigger(depth: u8, input: u8) -> bool
     ensures { λ r. ⌜ r ≡ (leb input 6 && (not (eqb input 6) || eqb depth 1)) ⌝ }
 {
@@ -335,7 +340,7 @@ fn trigger(depth: u8, input: u8) -> bool
     }
 }
 
-// Table 12, Byte 16: LED Select.
+// Table 12, Byte 16.
 fn led_select(led: u32) -> bool
     ensures { λ r. ⌜ r ≡ leb led 2 ⌝ }
 {
@@ -385,8 +390,8 @@ pub(crate) fn blocked(v: Value, mode: u8) -> bool
     }
 }
 
-// Every setting is allowed, and run is not 1 outside mode 4. The video input comes last: its check is a
-// call of its own, across which nothing has to be kept then.
+// Every setting is allowed, and run is not 1 outside mode 4. The video input comes last: in the object
+// code its check is the one that is called, and asked last it has nothing to be kept across the call.
 pub(crate) fn settings_in_rule(s: Settings) -> bool
     ensures { λ r. ⌜ r ≡ settingsInRule s ⌝ }
 {

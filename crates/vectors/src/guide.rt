@@ -11,7 +11,7 @@ use crate::said::text;
 use crate::stream;
 
 // The label's length in a byte, the label, the command in two bytes, the stream's length in two, the
-// stream, and the settings. A part that the case has too few bytes for leaves none for the settings.
+// stream, and the settings. Where the case is too short for a part, nothing is left for the settings.
 pub fn tell(b: &[u8]) {
     text(b": ");
     let label = further(0, 1, b.len());

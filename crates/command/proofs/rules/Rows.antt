@@ -22,20 +22,20 @@ passed N (k ∷ ks) v h = let p = passed (N × (v ≡ k → ⊥)) ks v h in (rw 
 pub none : (ks : List ℕ) (v : ℕ) → Rest Unit ks v → oneOf v ks ≡ false
 none ks v h = passed Unit ks v h .0
 
--- so many values from one on
-abbrev pub run : ℕ → ℕ → List ℕ
-run k zero = []
-run k (suc n) = k ∷ run (suc k) n
+-- so many values, from this one on
+abbrev pub span : ℕ → ℕ → List ℕ
+span k zero = []
+span k (suc n) = k ∷ span (suc k) n
 
-after : (k n v : ℕ) → oneOf v (run k n) ≡ false → k ≤ v → k + n ≤ v
+after : (k n v : ℕ) → oneOf v (span k n) ≡ false → k ≤ v → k + n ≤ v
 after k zero v h l = omega (arith, l)
 after k (suc n) v h l =
     let d = eqb-false v k (or-left (eqb v k) _ h) in
     let m = after (suc k) n v (or-right (eqb v k) _ h) (omega (arith, l, d)) in omega (arith, m)
 
 -- with an arm for each value from 0 to a limit it is over the limit
-pub over : (limit v : ℕ) → Rest Unit (run 0 (suc limit)) v → leb v limit ≡ false
-over limit v h = lt-leb v limit (let l = after 0 (suc limit) v (none (run 0 (suc limit)) v h) (omega arith) in omega (arith, l))
+pub over : (limit v : ℕ) → Rest Unit (span 0 (suc limit)) v → leb v limit ≡ false
+over limit v h = lt-leb v limit (let l = after 0 (suc limit) v (none (span 0 (suc limit)) v h) (omega arith) in omega (arith, l))
 
 -- a range has the values from its first to its last
 pub inside : (first last v : ℕ) → first ≤ v → v ≤ last → within first last v ≡ true
@@ -47,11 +47,11 @@ below first last v h = rw (lt-leb first v h)
 pub beyond : (first last v : ℕ) → last < v → within first last v ≡ false
 beyond first last v h = rw (lt-leb v last h, and-false)
 
--- and so has an arm for each of them
-pub outside : (first n v : ℕ) → Rest Unit (run first (suc n)) v → within first (first + n) v ≡ false
+-- with an arm for each value of a range it is outside the range
+pub outside : (first n v : ℕ) → Rest Unit (span first (suc n)) v → within first (first + n) v ≡ false
 outside first n v h =
     lt-cases v first (below first (first + n) v)
-    (λ l. beyond first (first + n) v (let m = after first (suc n) v (none (run first (suc n)) v h) l in omega (arith, m)))
+    (λ l. beyond first (first + n) v (let m = after first (suc n) v (none (span first (suc n)) v h) l in omega (arith, m)))
 
 -- Where one test follows another by `&&`: t is what the tests before say, whose rule is A, and f what comes out. On one way t holds and the next test decides, by its rule B; on the other t fails and stands.
 pub meets : {t f A B : Bool} {X Y : Type 0} → t ≡ A → (X → (t ≡ true) × (f ≡ B)) → (Y → (t ≡ false) × (f ≡ t)) → X ⊎ Y → f ≡ (A && B)

@@ -9,8 +9,8 @@ use Rattle.command.proofs.rules.Rows.{below, beyond}
 use Rattle.command.proofs.rules.pattern_count.Statement.{statement}
 use Rattle.command.proofs.rules.pattern_count.Tie as tie
 
-over-all : (depth : ℕ) → mostPatterns depth ≤ 96
-over-all depth = let l = div-le-self 95 depth in omega (arith, l)
+most-of-all : (depth : ℕ) → mostPatterns depth ≤ 96
+most-of-all depth = let l = div-le-self 95 depth in omega (arith, l)
 
 returns : tie.Need-returns
 returns c h = let count = c .before .before .before .args .count in rw (c .count-in-limit .ensures h, le-leb 1 count (omega arith))
@@ -21,7 +21,7 @@ returns-2 c h = rw (below 1 (mostPatterns (c .before .args .depth)) (c .before .
 returns-3 : tie.Need-returns-3
 returns-3 c h =
     let q = c .before .before .args in
-    let most = over-all (q .depth) in rw (beyond 1 (mostPatterns (q .depth)) (q .count) (omega (arith, most, c .if2 .left)))
+    let most = most-of-all (q .depth) in rw (beyond 1 (mostPatterns (q .depth)) (q .count) (omega (arith, most, c .if2 .left)))
 
 pub pattern-count-spec : {M : Type 1} → statement M
 pattern-count-spec = tie.close (tie.spec (λ c κs. search needs) returns returns-2 returns-3)
