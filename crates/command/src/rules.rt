@@ -1,6 +1,9 @@
 // The value checks, laid out like the guide's pages (DLPU007D, sections 3.2 to 3.11): a check for each
-// command in the guide's order, below it the rows of its table, and an arm for each value or range that a
-// row prints. What no row prints is not allowed. Then what follows from them for a write and the settings.
+// command in the guide's order, with the rows of its table, and below it each row with a case for each value
+// or range that it prints. There `1..=8` is from 1 to 8, both included, and `_` every other value. A row that
+// prints no values stands as a comment. What document 01 decides, where the guide is silent, says so. Some
+// rows of one byte have a wider number here, as the settings have (settings.rt). At the end: what the checks
+// mean for a write and for all settings.
 use crate::settings::DisplaySetting;
 use crate::settings::Drive;
 use crate::settings::LedCurrent;
@@ -63,15 +66,17 @@ fn led_current(q: LedCurrent) -> bool
     ensures { λ r. ⌜ r ≡ allowedIn command.LedCurrent (currentValues q) ⌝ }
 {
     // Byte 0 - Byte 1: Red LED current.
-    drive(q.red)
+    led_drive(q.red)
         // Byte 2 - Byte 3: Green LED current.
-        && drive(q.green)
+        && led_drive(q.green)
         // Byte 4 - Byte 5: Blue LED current.
-        && drive(q.blue)
+        && led_drive(q.blue)
 }
 
-// Each row of Table 5: Range 0 - 1024. Default 274.
-fn drive(current: Drive) -> bool
+// Each row of Table 5: Range 0 - 1024. Default 274. Of what is printed below the table nothing is checked:
+// 0 disables the LED, 0x400 is full current and for short bursts, and 0x112 is the most for continuous
+// operation with no active thermal cooling.
+fn led_drive(current: Drive) -> bool
     ensures { λ r. ⌜ r ≡ leb (current .0) 1024 ⌝ }
 {
     let counts = current.0;
@@ -86,10 +91,11 @@ fn drive(current: Drive) -> bool
 fn static_colour(q: StaticColour) -> bool
     ensures { λ r. ⌜ r ≡ allowedIn command.StaticColour (colourValues q) ⌝ }
 {
-    // BB, GG and RR, which come first, are any value.
+    // The least significant byte is sent first: BB, GG and RR are Byte 0 to Byte 2, any value, and 00 is
+    // Byte 3 (document 01).
     let last = q.last;
     match last {
-        0x00 => true, // the 00 before RR
+        0x00 => true, // Byte 3
         _ => false,
     }
 }
@@ -145,10 +151,10 @@ fn video_input(q: VideoInput) -> bool
 {
     // Byte 0 - Byte 1: Input Resolution X. Byte 2 - Byte 3: Input Resolution Y.
     supported(q.x, q.y)
-    // Byte 4 - Byte 5: First Active Pixel (Input cropping). Any value.
-    // Byte 6 - Byte 7: First Active Line (Input cropping). Any value.
-    // Byte 8 - Byte 9: Active Width (Input cropping). Any value.
-    // Byte 10 - Byte 11: Active Height (Input cropping). Any value.
+    // Byte 4 - Byte 5: First Active Pixel (Input cropping). Any value (document 01).
+    // Byte 6 - Byte 7: First Active Line (Input cropping). Any value (document 01).
+    // Byte 8 - Byte 9: Active Width (Input cropping). Any value (document 01).
+    // Byte 10 - Byte 11: Active Height (Input cropping). Any value (document 01).
 }
 
 // An entry of Table 10, X × Y.
@@ -207,13 +213,13 @@ fn packed(x: u16, y: u16) -> u32
 fn supported(x: u16, y: u16) -> bool
     ensures { λ r. ⌜ r ≡ listed x y pairs ⌝ }
 {
-    let input = packed(x, y);
+    let wanted = packed(x, y);
     let table = SUPPORTED_RESOLUTIONS;
     let mut k = table.len();
     while 0 < k {
         k -= 1;
         let entry = table[k];
-        if input == packed(entry.x, entry.y) {
+        if wanted == packed(entry.x, entry.y) {
             return true;
         }
     }
@@ -273,18 +279,18 @@ fn video_led(led: u16) -> bool
 fn pattern_sequence(q: PatternSequence) -> bool
     ensures { λ r. ⌜ r ≡ allowedIn command.PatternSequence (sequenceValues q) ⌝ }
 {
-    // Byte 0: Pattern bit depth (1 - 8).
+    // Byte 0: Pattern bit depth (1 - 8), as Byte 1 of Table 11.
     bit_depth(q.depth)
-        // Byte 1: Number of patterns in the sequence (1 - 96).
+        // Byte 1: Number of patterns in the sequence (1 - 96), and no more than 3.10 numbers.
         && pattern_count(q.depth, q.count)
         // Byte 2: Include inverted patterns (only applicable for 1 bit patterns).
         && inversion(q.depth, q.inversion)
         // Byte 3: Input trigger type.
-        && trigger(q.depth, q.trigger)
-        // Byte 4 - Byte 7: Input Trigger Delay in micro seconds. Any value.
-        // Byte 8 - Byte 11: Trigger Period in micro second (only for Auto Trigger mode). Any value, whatever
-        // the trigger: document 01 asks nothing of it.
-        // Byte 12 - Byte 15: Exposure Time in micro seconds. Any value.
+        && trigger_type(q.depth, q.trigger)
+        // Byte 4 - Byte 7: Input Trigger Delay in micro seconds. Any value (document 01).
+        // Byte 8 - Byte 11: Trigger Period in micro second (only for Auto Trigger mode). Any value, with
+        // every trigger (document 01).
+        // Byte 12 - Byte 15: Exposure Time in micro seconds. Any value (document 01).
         // Byte 16: LED Select.
         && led_select(q.led)
 }
@@ -299,17 +305,7 @@ fn pattern_count(depth: u8, count: u8) -> bool
     }
 }
 
-// 3.10 Pattern Definition, Table 13, Byte 0: Pattern Number (0 - 95/BitsPerPattern). So there are at most
-// 1 + 95 / depth, said by a product: not every processor can divide, and damaged memory may have a depth
-// of 0, which its own rule refuses.
-fn count_in_limit(depth: u8, count: u8) -> bool
-    ensures { λ r. ⌜ (0 < depth → r ≡ leb count (mostPatterns depth)) ⌝ }
-{
-    let bits = depth as u32;
-    count as u32 * bits <= 95 + bits
-}
-
-// Table 12, Byte 2.
+// Table 12, Byte 2. At another depth 1 and 2 are refused (document 01).
 fn inversion(depth: u8, inverted: u8) -> bool
     ensures { λ r. ⌜ r ≡ (leb inverted 2 && (eqb inverted 0 || eqb depth 1)) ⌝ }
 {
@@ -325,10 +321,10 @@ fn inversion(depth: u8, inverted: u8) -> bool
 }
 
 // Table 12, Byte 3.
-fn trigger(depth: u8, input: u8) -> bool
-    ensures { λ r. ⌜ r ≡ (leb input 6 && (not (eqb input 6) || eqb depth 1)) ⌝ }
+fn trigger_type(depth: u8, kind: u8) -> bool
+    ensures { λ r. ⌜ r ≡ (leb kind 6 && (not (eqb kind 6) || eqb depth 1)) ⌝ }
 {
-    match input {
+    match kind {
         0 => true, // Command Trigger (Through Current Pattern Command)
         1 => true, // Auto Trigger
         2 => true, // External Trigger (Positive Polarity)
@@ -350,6 +346,17 @@ fn led_select(led: u32) -> bool
         2 => true, // Blue
         _ => false,
     }
+}
+
+// 3.10 Pattern Definition (04 01), Table 13, Byte 0: Pattern Number (0 - 95/BitsPerPattern). The command is
+// not in this build; its numbers limit how many patterns a sequence has: 1 plus the whole part of 95/depth.
+// Tested by a product: not every processor can divide, and damaged memory may have a depth of 0, which its
+// own row refuses.
+fn count_in_limit(depth: u8, count: u8) -> bool
+    ensures { λ r. ⌜ (0 < depth → r ≡ leb count (mostPatterns depth)) ⌝ }
+{
+    let bits = depth as u32;
+    count as u32 * bits <= 95 + bits
 }
 
 // 3.11 Start Pattern Sequence (04 02), Table 16, Byte 0.
@@ -380,7 +387,7 @@ pub(crate) fn allowed(v: Value) -> bool
     }
 }
 
-// Run 1 outside display mode 4.
+// Run 1 outside display mode 4 (document 01; the guide has no such rule).
 pub(crate) fn blocked(v: Value, mode: u8) -> bool
     ensures { λ r. ⌜ r ≡ blockedIn (commandIn v) (valuesIn v) mode ⌝ }
 {
@@ -390,8 +397,8 @@ pub(crate) fn blocked(v: Value, mode: u8) -> bool
     }
 }
 
-// Every setting is allowed, and run is not 1 outside mode 4. The video input comes last: in the object
-// code its check is the one that is called, and asked last it has nothing to be kept across the call.
+// Every setting is allowed, and run is not 1 outside mode 4. The video input comes last: the compiler
+// inlines the other checks and calls this one, and what is looked at after a call has to be saved across it.
 pub(crate) fn settings_in_rule(s: Settings) -> bool
     ensures { λ r. ⌜ r ≡ settingsInRule s ⌝ }
 {

@@ -1,4 +1,4 @@
--- `display_mode` meets its contract: of the last arm all matters but that the mode is not the reserved one.
+-- `display_mode` meets its contract: in the last arm it is not needed that the mode is not 3.
 use mathlib.Core.List.{[], _∷_}
 use Rattle.command.proofs.rules.Rows.{none}
 use Rattle.command.proofs.rules.display_mode.Statement.{statement}

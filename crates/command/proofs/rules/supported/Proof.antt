@@ -92,7 +92,7 @@ last x y rs k h l =
 abbrev Left : ℕ → ℕ → List Resolution → ℕ → Type 0
 Left x y rs k = (k ≤ length rs) × (listed x y pairs ≡ among x y rs k)
 
--- the table has the pairs of document 01, in an order of its own
+-- the table has the pairs of document 01, in the guide's order
 at-first : (x y : ℕ) (rs : List Resolution) → allListed pairs (entries (take (length rs) rs)) ≡ true → allListed (entries (take (length rs) rs)) pairs ≡ true
     → Left x y rs (length rs)
 unfolding among
@@ -112,10 +112,10 @@ unfolding among entries
 at-last x y rs k l e = l .1 ∙ ap (λ (n : ℕ). among x y rs n) e
 
 abbrev Inv-loop : tie.InvT-loop
-Inv-loop x y input table k₀ k = Left x y table k
+Inv-loop x y wanted table k₀ k = Left x y table k
 
 abbrev μ-loop : tie.MeasureT-loop
-μ-loop x y input table k₀ k = k
+μ-loop x y wanted table k₀ k = k
 
 loop-holds : tie.Need-loop-holds Inv-loop μ-loop
 unfolding entries allListed
