@@ -18,6 +18,7 @@ use Rattle.packet.specs.Number.{bytesOf}
 use Rattle.packet.proofs.Cases.{bool-cases, cond-cases, and-both, or-left, or-right, never}
 use Rattle.command.specs.Table.{cmd1For, cmd2For, same, layout}
 use Rattle.command.specs.Settings.{store}
+use Rattle.command.specs.Rules.{wrongByte}
 use Rattle.command.specs.Data.{splitAll}
 use Rattle.command.specs.Value.{dataOf, valueFrom}
 use Rattle.command.specs.Transfer.{Transfer, Closed, Opened, held}
@@ -213,7 +214,7 @@ module _ (a : State) (q : List ℕ) where
         read = λ _ r _. accepts-read c k none (eqb-true (typeOf q) hostRead r);
         asked = λ _ _ _. no-error sizeFault;
         size = λ _ _ _. no-error sizeFault;
-        value = λ _ _ _ _. no-error valueFault;
+        value = λ _ _ _ _. no-error (valueFault (wrongByte c (splitAll (layout c) (held (a .transfer) ++ payload q))));
         blocks = λ _ _ _ _ _. no-error modeFault;
         write = λ f r _ w. accepts-write c k none f r (w .full);
       })

@@ -46,14 +46,14 @@ most-numbered depth n h =
     let d = le-div-iff-mul-le {k = depth} {x = n} {y = 95} h in
     (λ m. d .0 (omega arith), λ m. let q = d .1 m in omega arith)
 
--- one test among five, moved to their end
-moved : (d c i t l : Bool) → (d && c && i && t && l) ≡ (d && true && i && t && l && c)
-moved d true i t l = simp and-true
-moved d false i t l = simp and-false
+-- the second of some tests, moved to their end
+moved : (first second others : Bool) → (first && (second && others)) ≡ (first && others && second)
+moved first true others = sym (and-true (first && others))
+moved first false others = and-false first ∙ sym (and-false (first && others))
 
 count-alone : (depth count : ℕ) (others : List ℕ)
     → allowed PatternSequence (depth ∷ count ∷ others) ≡ allowed PatternSequence (depth ∷ 1 ∷ others) && within 1 (mostPatterns depth) count
-count-alone depth count others = rw (le-leb 1 (mostPatterns depth) (omega arith)) (moved (within 1 8 depth) (within 1 (mostPatterns depth) count) _ _ _)
+count-alone depth count others = rw (le-leb 1 (mostPatterns depth) (omega arith)) (moved (within 1 8 depth) (within 1 (mostPatterns depth) count) _)
 
 no-depth : (depth count : ℕ) (others : List ℕ) → (depth < 1) ⊎ (8 < depth) → allowed PatternSequence (depth ∷ count ∷ others) ≡ false
 no-depth depth count others (inl h) = rw (lt-leb 1 depth h)

@@ -2,6 +2,7 @@
 use Prim.Native.Nat.{ℕ}
 use mathlib.Core.Bool.{cond}
 use mathlib.Core.List.{List}
+use mathlib.Core.Option.{Option, none}
 use lib.Dec.{ltb}
 use lib.ListN.{length, take}
 use Rattle.packet.specs.Answer.{Outcome, Refuses, Waits, Answers}
@@ -11,7 +12,7 @@ use Rattle.packet.specs.Writer.{written}
 use Rattle.command.specs.Faults.{Arrived}
 use Rattle.command.specs.Judgement.{judge}
 use Rattle.command.specs.Carry.{settingsAfter}
-use Rattle.command.specs.Response.{response}
+use Rattle.command.specs.Response.{response, wrongIn}
 use Rattle.command.specs.Controller.{transferOf, transferIn, receiverIn, packetIn, transferStateAfter, bufferAfter, inRule}
 use Rattle.command.specs.declared.settings.Settings.{Settings}
 use Rattle.command.specs.declared.transfer.TransferState.{TransferState}
@@ -57,21 +58,23 @@ carriedOut c t j =
       hold = t .receiver .hold;
     }
 
--- The receive call: the answer, the controller afterwards, and the output.
+-- The receive call: the answer, the byte that code 03 is about, where the packet draws it, the controller afterwards, and the output.
 pub record After : Type 0 where
   pub answer : Outcome
+  pub wrong : Option ℕ
   pub controller : Controller
   pub output : List ℕ
 
 -- a refusal takes nothing and leaves buffer and controller untouched
 abbrev pub refused : ℕ → Controller → List ℕ → After
-refused n c out = record { answer = Refuses n; controller = c; output = out }
+refused n c out = record { answer = Refuses n; wrong = none; controller = c; output = out }
 
 -- "waiting": all bytes taken, output untouched
 abbrev pub waiting : Controller → Received → List ℕ → After
 waiting c t out =
     record {
       answer = Waits (t .taken);
+      wrong = none;
       controller =
           record {
             settings = c .settings;
@@ -82,11 +85,12 @@ waiting c t out =
       output = out;
     }
 
--- "answered": the response at the output's start, the rest untouched
+-- "answered": the response at the output's start, the rest untouched, and beside it the byte that is wrong
 abbrev pub answered : Controller → Received → List ℕ → After
 answered c t out =
     record {
       answer = Answers (t .taken) (length (responseIn c t));
+      wrong = wrongIn (judgedIn c t);
       controller = carriedOut c t (judgedIn c t);
       output = written (responseIn c t) out;
     }

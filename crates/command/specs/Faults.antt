@@ -9,6 +9,8 @@ use Rattle.command.specs.Table.{isKnown, canRead}
 use Rattle.command.specs.Transfer.{Transfer, isOpen, held, openFor}
 use Rattle.command.specs.declared.table.Found.{Found}
 use Rattle.command.specs.declared.faults.Codes.{Codes}
+use Rattle.command.specs.declared.rules.WrongByte.{WrongByte}
+use Rattle.command.specs.declared.rules.WrongByte.the-variants.{Nothing}
 
 -- a complete packet, as far as it is judged
 pub record Arrived : Type 0 where
@@ -64,6 +66,7 @@ faults c t p =
       checksum = not (p .right);
       format = false;
       continuation = wrongOrder (isOpen t) (openFor c t) (p .type) (p .flags);
+      wrong = Nothing;
     }
 
 -- one of the first group holds
@@ -74,21 +77,22 @@ anyFault k = k .command || k .memory || k .checksum || k .continuation
 
 abbrev pub sizeFault : Codes
 sizeFault =
-    record { command = false; parameter = false; memory = false; precondition = false; checksum = false; format = true; continuation = false }
+    record { command = false; parameter = false; memory = false; precondition = false; checksum = false; format = true; continuation = false; wrong = Nothing }
 
-abbrev pub valueFault : Codes
-valueFault =
-    record { command = false; parameter = true; memory = false; precondition = false; checksum = false; format = false; continuation = false }
+-- 03 names the byte that is wrong
+abbrev pub valueFault : WrongByte → Codes
+valueFault w =
+    record { command = false; parameter = true; memory = false; precondition = false; checksum = false; format = false; continuation = false; wrong = w }
 
 abbrev pub modeFault : Codes
 modeFault =
-    record { command = false; parameter = false; memory = false; precondition = true; checksum = false; format = false; continuation = false }
+    record { command = false; parameter = false; memory = false; precondition = true; checksum = false; format = false; continuation = false; wrong = Nothing }
 
 -- a code if its fault holds, and then others
 unfoldable pub listIf : Bool → ℕ → List ℕ → List ℕ
 listIf b n l = cond b (n ∷ l) l
 
--- one byte for each code, ascending, none twice
+-- one byte for each code, ascending, none twice; the byte that is wrong goes beside them, not among them
 unfoldable pub codesOf : Codes → List ℕ
 codesOf k =
     listIf (k .command) 0x02

@@ -18,6 +18,8 @@ use Rattle.command.specs.declared.table.Command.the-variants.{SequenceRu
 use Rattle.command.specs.declared.table.Found.{Found}
 use Rattle.command.specs.declared.table.Found.the-variants.{Known, Unknown}
 use Rattle.command.specs.declared.faults.Codes.{Codes}
+use Rattle.command.specs.declared.rules.WrongByte.{WrongByte}
+use Rattle.command.specs.declared.rules.WrongByte.the-variants.{At, Nothing}
 use Rattle.command.specs.declared.value.Parsed.{Parsed}
 use Rattle.command.specs.declared.value.Parsed.the-variants.{Values, WrongSize}
 use Rattle.command.specs.declared.data.Data.{Data}
@@ -29,6 +31,11 @@ use Rattle.command.specs.declared.controller.Registers.{Registers}
 -- the command in line k of the table, from 0; past the end, the last: the contract of Command::at; put_list goes through `table` by it
 abbrev pub commandAt : ℕ → Command
 commandAt k = getD table k SequenceRun
+
+-- no byte is wrong: `allowed`, where it is wrongByte (law nothing-wrong of rules/Laws)
+abbrev pub isNothing : WrongByte → Bool
+isNothing (At n) = false
+isNothing Nothing = true
 
 -- Data by their layout.
 
@@ -87,6 +94,7 @@ faultsOf c opened ours n type flags size right =
       checksum = not right;
       format = false;
       continuation = wrongOrder opened ours type flags;
+      wrong = Nothing;
     }
 
 -- the state of the head by its settings, its transfer's numbers and the array of the transfer's data: stateOf of a controller that has these, by computing

@@ -6,7 +6,7 @@ use lib.Dec.{eqb}
 use lib.ListN.{length}
 use Rattle.packet.specs.Packet.{hostRead, whole, last}
 use Rattle.command.specs.Table.{commandOf, layout, sizeOf}
-use Rattle.command.specs.Rules.{allowed, blocked}
+use Rattle.command.specs.Rules.{allowed, wrongByte, blocked}
 use Rattle.command.specs.Data.{splitAll}
 use Rattle.command.specs.Value.{valueFrom}
 use Rattle.command.specs.Transfer.{Transfer, held}
@@ -17,13 +17,13 @@ use Rattle.command.specs.declared.table.Found.the-variants.{Known, Unkno
 use Rattle.command.specs.declared.judgement.Judgement.{Judgement}
 use Rattle.command.specs.declared.judgement.Judgement.the-variants.{Error, Hold, Write, Read}
 
--- a write of these data: 0A if they haven't the command's size, then 03 if a value isn't allowed, then 07 for run 1 outside mode 4
+-- a write of these data: 0A if they haven't the command's size, then 03 if a value isn't allowed, with its byte, then 07 for run 1 outside mode 4
 unfoldable pub judgeWrite : Command → ℕ → List ℕ → Judgement
 judgeWrite c mode d =
     cond (eqb (length d) (sizeOf c))
     (cond (allowed c (splitAll (layout c) d))
     (cond (blocked c (splitAll (layout c) d) mode) (Error modeFault) (Write (valueFrom c (splitAll (layout c) d))))
-    (Error valueFault))
+    (Error (valueFault (wrongByte c (splitAll (layout c) d)))))
     (Error sizeFault)
 
 -- a read has no request data

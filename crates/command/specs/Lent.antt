@@ -4,6 +4,7 @@ use mathlib.Core.Bool.{Bool, true, false}
 use mathlib.Core.List.{List}
 use Prim.Native.Nat.{ℕ}
 use Rattle.packet.specs.Answer.{Outcome, Refuses, Waits, Answers, outcomeOf}
+use Rattle.command.specs.Rules.{byteOf}
 use Rattle.command.specs.Endpoint.{After}
 use Rattle.command.specs.declared.settings.Settings.{Settings}
 use Rattle.command.specs.declared.controller.Registers.{Registers}
@@ -17,7 +18,12 @@ controllerOf s r buffer hold = record { settings = s; registers = r; buffer = bu
 -- what the call answers and leaves, by its result and the arrays and the output that it left
 abbrev pub afterOf : Served → List ℕ → List ℕ → List ℕ → After
 afterOf s buffer hold out =
-    record { answer = outcomeOf (s .answer); controller = controllerOf (s .settings) (s .registers) buffer hold; output = out }
+    record {
+      answer = outcomeOf (s .answer);
+      wrong = byteOf (s .wrong);
+      controller = controllerOf (s .settings) (s .registers) buffer hold;
+      output = out;
+    }
 
 -- "answered": a packet was complete
 abbrev pub isAnswered : Outcome → Bool

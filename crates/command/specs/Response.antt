@@ -2,8 +2,10 @@
 use Prim.Native.Nat.{ℕ}
 use mathlib.Core.Bool.{Bool}
 use mathlib.Core.List.{List, []}
+use mathlib.Core.Option.{Option, none}
 use lib.Dec.{eqb}
 use Rattle.packet.specs.Packet.{packetOf, error, writeResponse, readResponse, whole}
+use Rattle.command.specs.Rules.{byteOf}
 use Rattle.command.specs.Value.{dataOf}
 use Rattle.command.specs.Faults.{Arrived, codesOf}
 use Rattle.command.specs.declared.settings.Settings.{Settings}
@@ -37,3 +39,10 @@ codesIn (Error k) = codesOf k
 codesIn (Hold c) = []
 codesIn (Write v) = []
 codesIn (Read c) = []
+
+-- the byte that it names: "with code 03 the receive call reports it beside the response, whose bytes stay the same" (request 4)
+abbrev pub wrongIn : Judgement → Option ℕ
+wrongIn (Error k) = byteOf (k .wrong)
+wrongIn (Hold c) = none
+wrongIn (Write v) = none
+wrongIn (Read c) = none

@@ -8,6 +8,7 @@ use crate::controller::in_rule;
 use crate::judgement::judge;
 use crate::output::OUTPUT;
 use crate::response::respond;
+use crate::rules::WrongByte;
 use crate::settings::Settings;
 use crate::transfer::HOLD;
 use packet::Answer;
@@ -17,6 +18,7 @@ ghost use Prim.Native.Nat.{_≤_, min};
 ghost use lib.ListN.{length};
 ghost use Rattle.packet.specs.Answer.{outcomeOf};
 ghost use Rattle.command.specs.Controller.{transferOf, transferInRule, partsInRule};
+ghost use Rattle.command.specs.Rules.{byteOf};
 ghost use Rattle.command.specs.Inner.{settled};
 ghost use Rattle.command.specs.Endpoint.{receiveCall};
 ghost use Rattle.command.specs.Lent.{controllerOf, afterOf, storedExactly};
@@ -28,6 +30,8 @@ pub struct Served {
     // Whether the settings are to be stored: a packet was complete. Otherwise they are as they were.
     pub stored: bool,
     pub answer: Answer,
+    // With code 03, the byte that is wrong.
+    pub wrong: WrongByte,
 }
 
 // How many bytes of a payload of this length are in the hold.
@@ -67,6 +71,7 @@ fn settle(
         registers: r.with_transfer(transfer),
         stored: true,
         answer: Answer::Answered { taken, length },
+        wrong: j.wrong(),
     }
 }
 
@@ -101,6 +106,7 @@ fn advance(
             registers: r,
             stored: false,
             answer: Answer::Waiting(t.taken),
+            wrong: WrongByte::Nothing,
         };
     }
     settle(settings, r, buffer, hold, t.right, t.taken, out)
@@ -124,6 +130,7 @@ pub fn serve(
             registers: r,
             stored: false,
             answer: Answer::ShortOutput,
+            wrong: WrongByte::Nothing,
         };
     }
     if !in_rule(settings, r) {
@@ -132,6 +139,7 @@ pub fn serve(
             registers: r,
             stored: false,
             answer: Answer::OutOfRule,
+            wrong: WrongByte::Nothing,
         };
     }
     advance(settings, r, buffer, hold, input, out)
@@ -141,11 +149,14 @@ pub fn serve(
 pub struct Step {
     pub controller: Controller,
     pub answer: Answer,
+    // Where the packet drew code 03, the byte of its data, in a transfer of the joined data, that is wrong.
+    pub wrong: WrongByte,
 }
 
 // The call on a controller by value.
 pub fn receive(c: Controller, input: &[u8], out: &mut [u8]) -> Step
     ensures { λ s. ⌜ (outcomeOf (s .answer) ≡ receiveCall c (now (input .entry)) (now (out .entry)) .answer)
+        × (byteOf (s .wrong) ≡ receiveCall c (now (input .entry)) (now (out .entry)) .wrong)
         × (s .controller ≡ receiveCall c (now (input .entry)) (now (out .entry)) .controller)
         × (now (out .exit) ≡ receiveCall c (now (input .entry)) (now (out .entry)) .output) ⌝ }
 {
@@ -155,6 +166,7 @@ pub fn receive(c: Controller, input: &[u8], out: &mut [u8]) -> Step
     let settings = s.settings;
     let registers = s.registers;
     let answer = s.answer;
+    let wrong = s.wrong;
     Step {
         controller: Controller {
             settings,
@@ -163,5 +175,6 @@ pub fn receive(c: Controller, input: &[u8], out: &mut [u8]) -> Step
             hold,
         },
         answer,
+        wrong,
     }
 }

@@ -1,4 +1,5 @@
 // The error codes, and the first group of faults: 02, 04, 09 and 0B, which are reported together.
+use crate::rules::WrongByte;
 use crate::table::Found;
 use crate::transfer::HOLD;
 use crate::transfer::TransferState;
@@ -9,9 +10,10 @@ ghost use Prim.Native.Nat.{_≤_, _<_};
 ghost use Rattle.packet.specs.Packet.{typeOf, flagsOf, payloadLength};
 ghost use Rattle.command.specs.Inner.{isOpenIn, openForIn, faultsOf};
 ghost use Rattle.command.specs.Controller.{heldIn, transferInRule};
-ghost use Rattle.command.specs.Faults.{wrongCommand, tooLong, wrongOrder, anyFault};
+ghost use Rattle.command.specs.Faults.{wrongCommand, tooLong, wrongOrder, anyFault, valueFault};
 
-// The error codes, by the names that the command guide gives them: which of them hold.
+// The error codes, by the names that the command guide gives them: which of them hold; and with 03 the byte
+// that is wrong, which is reported beside the codes.
 pub(crate) struct Codes {
     // 02
     pub command: bool,
@@ -27,6 +29,7 @@ pub(crate) struct Codes {
     pub format: bool,
     // 0B
     pub continuation: bool,
+    pub wrong: WrongByte,
 }
 
 impl Codes {
@@ -39,17 +42,7 @@ impl Codes {
         checksum: false,
         format: true,
         continuation: false,
-    };
-
-    // 03 alone.
-    pub(crate) const VALUE: Codes = Codes {
-        command: false,
-        parameter: true,
-        memory: false,
-        precondition: false,
-        checksum: false,
-        format: false,
-        continuation: false,
+        wrong: WrongByte::Nothing,
     };
 
     // 07 alone.
@@ -61,7 +54,24 @@ impl Codes {
         checksum: false,
         format: false,
         continuation: false,
+        wrong: WrongByte::Nothing,
     };
+
+    // 03 alone, and the byte that it is about.
+    pub(crate) fn value(wrong: WrongByte) -> Codes
+        ensures { λ k. ⌜ k ≡ valueFault wrong ⌝ }
+    {
+        Codes {
+            command: false,
+            parameter: true,
+            memory: false,
+            precondition: false,
+            checksum: false,
+            format: false,
+            continuation: false,
+            wrong,
+        }
+    }
 
     // A fault of the first group holds.
     pub(crate) fn first_group(self) -> bool
@@ -133,5 +143,6 @@ pub(crate) fn faults(found: Found, t: TransferState, header: [u8; HEADER], right
         checksum: !right,
         format: false,
         continuation: wrong_order(active, ours, kind, flags),
+        wrong: WrongByte::Nothing,
     }
 }

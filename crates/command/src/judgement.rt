@@ -2,8 +2,9 @@
 // steps.
 use crate::faults::Codes;
 use crate::faults::faults;
-use crate::rules::allowed;
+use crate::rules::WrongByte;
 use crate::rules::blocked;
+use crate::rules::wrong_byte;
 use crate::table::Command;
 use crate::table::Found;
 use crate::transfer::TransferState;
@@ -19,6 +20,8 @@ ghost use mathlib.Core.List.{_++_};
 ghost use Prim.Native.Nat.{_≤_, _<_};
 ghost use lib.ListN.{length};
 ghost use Rattle.command.specs.Controller.{transferIn, packetIn, transferInRule};
+ghost use Rattle.command.specs.Response.{wrongIn};
+ghost use Rattle.command.specs.Rules.{byteOf};
 
 pub(crate) enum Judgement {
     // An error packet with these codes.
@@ -31,6 +34,20 @@ pub(crate) enum Judgement {
     Read(Command),
 }
 
+impl Judgement {
+    // The byte that code 03 is about.
+    pub(crate) fn wrong(self) -> WrongByte
+        ensures { λ w. ⌜ byteOf w ≡ wrongIn self ⌝ }
+    {
+        match self {
+            Judgement::Error(k) => k.wrong,
+            Judgement::Hold(_) => WrongByte::Nothing,
+            Judgement::Write(_) => WrongByte::Nothing,
+            Judgement::Read(_) => WrongByte::Nothing,
+        }
+    }
+}
+
 // The data of a write are complete: what is held, and the payload.
 fn judge_write(c: Command, mode: u8, held: &[u8], payload: &[u8]) -> Judgement
     requires { ⌜ (length (now held) ≤ 1024) × (length (now payload) < 65536) ⌝ }
@@ -39,8 +56,9 @@ fn judge_write(c: Command, mode: u8, held: &[u8], payload: &[u8]) -> Judgement
     let Parsed::Values(v) = parse(c, held, payload) else {
         return Judgement::Error(Codes::SIZE);
     };
-    if !allowed(v) {
-        return Judgement::Error(Codes::VALUE);
+    let wrong = wrong_byte(v);
+    if let WrongByte::At(_) = wrong {
+        return Judgement::Error(Codes::value(wrong));
     }
     if blocked(v, mode) {
         return Judgement::Error(Codes::MODE);

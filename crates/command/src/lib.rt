@@ -42,6 +42,7 @@ pub use player::play;
 pub use transfer::HOLD;
 
 // The commands and their values.
+pub use rules::WrongByte;
 pub use settings::DisplaySetting;
 pub use settings::Drive;
 pub use settings::LedCurrent;

@@ -2,8 +2,9 @@
 // command in the guide's order, with the rows of its table, and below it each row with a case for each value
 // or range that it prints. There `1..=8` is from 1 to 8, both included, and `_` every other value. A row that
 // prints no values stands as a comment. What document 01 decides, where the guide is silent, says so. Some
-// rows of one byte have a wider number here, as the settings have (settings.rt). At the end: what the checks
-// mean for a write and for all settings.
+// rows of one byte have a wider number here, as the settings have (settings.rt). The check of a command
+// names the byte with which the first row begins whose value is not allowed; a rule between two rows stands
+// at the later one. At the end: what the checks mean for a write and for all settings.
 use crate::settings::DisplaySetting;
 use crate::settings::Drive;
 use crate::settings::LedCurrent;
@@ -17,16 +18,45 @@ use crate::value::Value;
 ghost use Prim.Native.Nat.{_/_, _%_, _<_};
 ghost use mathlib.Core.Path.{_≡_};
 ghost use mathlib.Core.List.{[], _∷_};
-ghost use Rattle.command.specs.Fields.{currentValues, colourValues, settingValues, inputValues, videoValues, sequenceValues};
 ghost use mathlib.Core.Bool.{not, _&&_, _||_};
 ghost use lib.Dec.{eqb, leb};
-ghost use Rattle.command.specs.Rules.{listed, mostPatterns, oneOf, pairs, within, allowed as allowedIn, blocked as blockedIn, settingsInRule};
-ghost use Rattle.command.specs.declared.table.Command.the-variants as command;
+ghost use Rattle.command.specs.Rules.{listed, mostPatterns, oneOf, pairs, within, field, firstWrong, currentFields, colourFields, settingFields, inputFields, videoFields, sequenceFields, allowed as allowedIn, wrongByte, blocked as blockedIn, settingsInRule};
+ghost use Rattle.command.specs.Inner.{isNothing};
 ghost use Rattle.command.specs.Value.{commandIn, valuesIn};
+
+// The byte of a command's data with which the first field begins that is not allowed.
+pub enum WrongByte {
+    // Its number, from 0.
+    At(u8),
+    // Every field is allowed.
+    Nothing,
+}
+
+impl WrongByte {
+    pub(crate) fn nothing(self) -> bool
+        ensures { λ r. ⌜ r ≡ isNothing self ⌝ }
+    {
+        match self {
+            WrongByte::At(_) => false,
+            WrongByte::Nothing => true,
+        }
+    }
+}
+
+// A command that has one row, which begins with byte 0.
+fn one_row(right: bool) -> WrongByte
+    ensures { λ r. ⌜ r ≡ firstWrong (field 0 right ∷ []) ⌝ }
+{
+    if right {
+        WrongByte::Nothing
+    } else {
+        WrongByte::At(0)
+    }
+}
 
 // 3.2 Current Display Mode (01 01), Table 3, Byte 0.
 fn display_mode(m: u8) -> bool
-    ensures { λ r. ⌜ r ≡ allowedIn command.DisplayMode (m ∷ []) ⌝ }
+    ensures { λ r. ⌜ r ≡ oneOf m (0 ∷ 1 ∷ 2 ∷ 4 ∷ []) ⌝ }
 {
     match m {
         0x00 => true, // Static Image
@@ -40,7 +70,7 @@ fn display_mode(m: u8) -> bool
 
 // 3.3 Current Test Pattern (01 03), Table 4, Byte 0.
 fn test_pattern(p: u8) -> bool
-    ensures { λ r. ⌜ r ≡ allowedIn command.TestPattern (p ∷ []) ⌝ }
+    ensures { λ r. ⌜ r ≡ leb p 13 ⌝ }
 {
     match p {
         0x00 => true, // 14x8 Checkerboard (default)
@@ -62,15 +92,22 @@ fn test_pattern(p: u8) -> bool
 }
 
 // 3.4 LED Current Setting (01 04), Table 5.
-fn led_current(q: LedCurrent) -> bool
-    ensures { λ r. ⌜ r ≡ allowedIn command.LedCurrent (currentValues q) ⌝ }
+fn led_current(q: LedCurrent) -> WrongByte
+    ensures { λ r. ⌜ r ≡ firstWrong (currentFields q) ⌝ }
 {
     // Byte 0 - Byte 1: Red LED current.
-    led_drive(q.red)
-        // Byte 2 - Byte 3: Green LED current.
-        && led_drive(q.green)
-        // Byte 4 - Byte 5: Blue LED current.
-        && led_drive(q.blue)
+    if !led_drive(q.red) {
+        return WrongByte::At(0);
+    }
+    // Byte 2 - Byte 3: Green LED current.
+    if !led_drive(q.green) {
+        return WrongByte::At(2);
+    }
+    // Byte 4 - Byte 5: Blue LED current.
+    if !led_drive(q.blue) {
+        return WrongByte::At(4);
+    }
+    WrongByte::Nothing
 }
 
 // Each row of Table 5: Range 0 - 1024. Default 274. Of what is printed below the table nothing is checked:
@@ -88,28 +125,35 @@ fn led_drive(current: Drive) -> bool
 
 // 3.5 is the static image, 01 05, which this build leaves out. Below it and without a number of its own:
 // Static Color (01 06), Table 7, Byte 0 - Byte 3: 24 bit Color in 00RRGGBB format.
-fn static_colour(q: StaticColour) -> bool
-    ensures { λ r. ⌜ r ≡ allowedIn command.StaticColour (colourValues q) ⌝ }
+fn static_colour(q: StaticColour) -> WrongByte
+    ensures { λ r. ⌜ r ≡ firstWrong (colourFields q) ⌝ }
 {
     // The least significant byte is sent first: BB, GG and RR are Byte 0 to Byte 2, any value, and 00 is
     // Byte 3 (document 01).
     let last = q.last;
     match last {
-        0x00 => true, // Byte 3
-        _ => false,
+        0x00 => WrongByte::Nothing, // Byte 3
+        _ => WrongByte::At(3),
     }
 }
 
 // 3.6 Display Setting (01 07), Table 8.
-fn display_setting(q: DisplaySetting) -> bool
-    ensures { λ r. ⌜ r ≡ allowedIn command.DisplaySetting (settingValues q) ⌝ }
+fn display_setting(q: DisplaySetting) -> WrongByte
+    ensures { λ r. ⌜ r ≡ firstWrong (settingFields q) ⌝ }
 {
     // Byte 0: Flip image on long axis.
-    long_axis(q.long)
-        // Byte 1: Flip image on short axis.
-        && short_axis(q.short)
-        // Byte 2: Rotate image by -90 degrees.
-        && rotation(q.rotate)
+    if !long_axis(q.long) {
+        return WrongByte::At(0);
+    }
+    // Byte 1: Flip image on short axis.
+    if !short_axis(q.short) {
+        return WrongByte::At(1);
+    }
+    // Byte 2: Rotate image by -90 degrees.
+    if !rotation(q.rotate) {
+        return WrongByte::At(2);
+    }
+    WrongByte::Nothing
 }
 
 // Table 8, Byte 0.
@@ -146,15 +190,19 @@ fn rotation(rotate: u16) -> bool
 }
 
 // 3.7 Video Input Setting (02 00), Table 9.
-fn video_input(q: VideoInput) -> bool
-    ensures { λ r. ⌜ r ≡ allowedIn command.VideoInput (inputValues q) ⌝ }
+fn video_input(q: VideoInput) -> WrongByte
+    ensures { λ r. ⌜ r ≡ firstWrong (inputFields q) ⌝ }
 {
-    // Byte 0 - Byte 1: Input Resolution X. Byte 2 - Byte 3: Input Resolution Y.
-    supported(q.x, q.y)
+    // Byte 0 - Byte 1: Input Resolution X. Any value by itself.
+    // Byte 2 - Byte 3: Input Resolution Y. It makes a supported resolution with X.
+    if !supported(q.x, q.y) {
+        return WrongByte::At(2);
+    }
     // Byte 4 - Byte 5: First Active Pixel (Input cropping). Any value (document 01).
     // Byte 6 - Byte 7: First Active Line (Input cropping). Any value (document 01).
     // Byte 8 - Byte 9: Active Width (Input cropping). Any value (document 01).
     // Byte 10 - Byte 11: Active Height (Input cropping). Any value (document 01).
+    WrongByte::Nothing
 }
 
 // An entry of Table 10, X × Y.
@@ -227,15 +275,22 @@ fn supported(x: u16, y: u16) -> bool
 }
 
 // 3.8 Video Mode Setting (02 01), Table 11.
-fn video_mode(q: VideoMode) -> bool
-    ensures { λ r. ⌜ r ≡ allowedIn command.VideoMode (videoValues q) ⌝ }
+fn video_mode(q: VideoMode) -> WrongByte
+    ensures { λ r. ⌜ r ≡ firstWrong (videoFields q) ⌝ }
 {
     // Byte 0: Frame Rate 15, 30, 40, 50, or 60 Hz.
-    frame_rate(q.rate)
-        // Byte 1: Bit Depth. Range 1 - 8. (default is 8)
-        && bit_depth(q.depth)
-        // Byte 2
-        && video_led(q.led)
+    if !frame_rate(q.rate) {
+        return WrongByte::At(0);
+    }
+    // Byte 1: Bit Depth. Range 1 - 8. (default is 8)
+    if !bit_depth(q.depth) {
+        return WrongByte::At(1);
+    }
+    // Byte 2
+    if !video_led(q.led) {
+        return WrongByte::At(2);
+    }
+    WrongByte::Nothing
 }
 
 // Table 11, Byte 0.
@@ -276,23 +331,34 @@ fn video_led(led: u16) -> bool
 }
 
 // 3.9 Pattern Sequence Setting (04 00), Table 12.
-fn pattern_sequence(q: PatternSequence) -> bool
-    ensures { λ r. ⌜ r ≡ allowedIn command.PatternSequence (sequenceValues q) ⌝ }
+fn pattern_sequence(q: PatternSequence) -> WrongByte
+    ensures { λ r. ⌜ r ≡ firstWrong (sequenceFields q) ⌝ }
 {
     // Byte 0: Pattern bit depth (1 - 8), as Byte 1 of Table 11.
-    bit_depth(q.depth)
-        // Byte 1: Number of patterns in the sequence (1 - 96), and no more than 3.10 numbers.
-        && pattern_count(q.depth, q.count)
-        // Byte 2: Include inverted patterns (only applicable for 1 bit patterns).
-        && inversion(q.depth, q.inversion)
-        // Byte 3: Input trigger type.
-        && trigger_type(q.depth, q.trigger)
-        // Byte 4 - Byte 7: Input Trigger Delay in micro seconds. Any value (document 01).
-        // Byte 8 - Byte 11: Trigger Period in micro second (only for Auto Trigger mode). Any value, with
-        // every trigger (document 01).
-        // Byte 12 - Byte 15: Exposure Time in micro seconds. Any value (document 01).
-        // Byte 16: LED Select.
-        && led_select(q.led)
+    if !bit_depth(q.depth) {
+        return WrongByte::At(0);
+    }
+    // Byte 1: Number of patterns in the sequence (1 - 96), and no more than 3.10 numbers.
+    if !pattern_count(q.depth, q.count) {
+        return WrongByte::At(1);
+    }
+    // Byte 2: Include inverted patterns (only applicable for 1 bit patterns).
+    if !inversion(q.depth, q.inversion) {
+        return WrongByte::At(2);
+    }
+    // Byte 3: Input trigger type.
+    if !trigger_type(q.depth, q.trigger) {
+        return WrongByte::At(3);
+    }
+    // Byte 4 - Byte 7: Input Trigger Delay in micro seconds. Any value (document 01).
+    // Byte 8 - Byte 11: Trigger Period in micro second (only for Auto Trigger mode). Any value, with
+    // every trigger (document 01).
+    // Byte 12 - Byte 15: Exposure Time in micro seconds. Any value (document 01).
+    // Byte 16: LED Select.
+    if !led_select(q.led) {
+        return WrongByte::At(16);
+    }
+    WrongByte::Nothing
 }
 
 // Table 12, Byte 1.
@@ -361,7 +427,7 @@ fn count_in_limit(depth: u8, count: u8) -> bool
 
 // 3.11 Start Pattern Sequence (04 02), Table 16, Byte 0.
 fn sequence_run(r: u32) -> bool
-    ensures { λ a. ⌜ a ≡ allowedIn command.SequenceRun (r ∷ []) ⌝ }
+    ensures { λ a. ⌜ a ≡ leb r 1 ⌝ }
 {
     match r {
         0 => true, // Stop Pattern Sequence
@@ -370,21 +436,28 @@ fn sequence_run(r: u32) -> bool
     }
 }
 
-// The values of a write are allowed.
-pub(crate) fn allowed(v: Value) -> bool
-    ensures { λ r. ⌜ r ≡ allowedIn (commandIn v) (valuesIn v) ⌝ }
+// Which byte of a write is wrong.
+pub(crate) fn wrong_byte(v: Value) -> WrongByte
+    ensures { λ r. ⌜ r ≡ wrongByte (commandIn v) (valuesIn v) ⌝ }
 {
     match v {
-        Value::DisplayMode(m) => display_mode(m),
-        Value::TestPattern(p) => test_pattern(p),
+        Value::DisplayMode(m) => one_row(display_mode(m)),
+        Value::TestPattern(p) => one_row(test_pattern(p)),
         Value::LedCurrent(q) => led_current(q),
         Value::StaticColour(q) => static_colour(q),
         Value::DisplaySetting(q) => display_setting(q),
         Value::VideoInput(q) => video_input(q),
         Value::VideoMode(q) => video_mode(q),
         Value::PatternSequence(q) => pattern_sequence(q),
-        Value::SequenceRun(r) => sequence_run(r),
+        Value::SequenceRun(r) => one_row(sequence_run(r)),
     }
+}
+
+// The values of a write are allowed.
+pub(crate) fn allowed(v: Value) -> bool
+    ensures { λ r. ⌜ r ≡ allowedIn (commandIn v) (valuesIn v) ⌝ }
+{
+    wrong_byte(v).nothing()
 }
 
 // Run 1 outside display mode 4 (document 01; the guide has no such rule).
@@ -404,12 +477,12 @@ pub(crate) fn settings_in_rule(s: Settings) -> bool
 {
     display_mode(s.mode)
         && test_pattern(s.pattern)
-        && led_current(s.current)
-        && static_colour(s.colour)
-        && display_setting(s.setting)
-        && video_mode(s.video)
-        && pattern_sequence(s.sequence)
+        && led_current(s.current).nothing()
+        && static_colour(s.colour).nothing()
+        && display_setting(s.setting).nothing()
+        && video_mode(s.video).nothing()
+        && pattern_sequence(s.sequence).nothing()
         && sequence_run(s.run)
         && !blocked(Value::SequenceRun(s.run), s.mode)
-        && video_input(s.input)
+        && video_input(s.input).nothing()
 }

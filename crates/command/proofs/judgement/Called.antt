@@ -12,7 +12,7 @@ use Rattle.packet.specs.Packet.{error, hostWrite, hostRead, whole, last, sum}
 use Rattle.packet.specs.Number.{valueOf}
 use Rattle.packet.proofs.Cases.{bool-cases, and-left, and-right, never}
 use Rattle.command.specs.Table.{commandOf, same, layout, sizeOf}
-use Rattle.command.specs.Rules.{blocked}
+use Rattle.command.specs.Rules.{wrongByte, blocked}
 use Rattle.command.specs.Data.{splitAll}
 use Rattle.command.specs.Transfer.{Transfer}
 use Rattle.command.specs.Faults.{Arrived, faults, anyFault, sizeFault, valueFault, modeFault, listIf, codesOf}
@@ -125,7 +125,7 @@ module _ (mode : ℕ) (t : Transfer) (p : Arrived) where
     later-judged f n (DataInRead r h) =
         known (λ c k. is-error sizeFault (judged-later c k ∙ rw (true-two (p .flags) whole last f, r, ne-eqb (length (joinedData t p)) 0 h)))
     later-judged f n (ValueNotAllowed c w k s h) =
-        is-error valueFault (judged-later c k ∙ rw (true-two (p .flags) whole last f, w, eq-eqb (length (joinedData t p)) (sizeOf c) s, h))
+        is-error (valueFault (wrongByte c (splitAll (layout c) (joinedData t p)))) (judged-later c k ∙ rw (true-two (p .flags) whole last f, w, eq-eqb (length (joinedData t p)) (sizeOf c) s, h))
     later-judged f n (RunOutsideMode w k e h) =
         is-error modeFault (judged-later SequenceRun k ∙ rw (true-two (p .flags) whole last f, w, e, ne-eqb mode 4 h))
 

@@ -11,7 +11,7 @@ use Rattle.packet.specs.Number.{Bytes}
 use Rattle.packet.specs.Packet.{typeOf, cmd1Of, cmd2Of, flagsOf, payloadLength, hostWrite, hostRead}
 use Rattle.packet.proofs.Cases.{bool-cases, cond-cases}
 use Rattle.command.specs.Table.{commandOf, layout, sizeOf}
-use Rattle.command.specs.Rules.{allowed, blocked}
+use Rattle.command.specs.Rules.{allowed, wrongByte, blocked}
 use Rattle.command.specs.Data.{splitAll, Fit}
 use Rattle.command.specs.Value.{commandIn, valuesIn, valueFrom}
 use Rattle.command.specs.Transfer.{Transfer, held}
@@ -40,7 +40,7 @@ pub record Later (P : Judgement → Type 0) (mode type flags : ℕ) (c : Command
   pub asked : completes flags ≡ true → eqb type hostRead ≡ true → eqb (length d) 0 ≡ false → P (Error sizeFault)
   pub size : completes flags ≡ true → eqb type hostRead ≡ false → eqb (length d) (sizeOf c) ≡ false → P (Error sizeFault)
   pub value : completes flags ≡ true → eqb type hostRead ≡ false → eqb (length d) (sizeOf c) ≡ true → allowed c (splitAll (layout c) d) ≡ false
-      → P (Error valueFault)
+      → P (Error (valueFault (wrongByte c (splitAll (layout c) d))))
   pub blocks : completes flags ≡ true → eqb type hostRead ≡ false → eqb (length d) (sizeOf c) ≡ true → allowed c (splitAll (layout c) d) ≡ true
       → blocked c (splitAll (layout c) d) mode ≡ true → P (Error modeFault)
   pub write : completes flags ≡ true → eqb type hostRead ≡ false → length d ≡ sizeOf c → Writable mode c (splitAll (layout c) d)
@@ -132,7 +132,8 @@ fitting mode t p b =
 abbrev pub judgeParsed : ℕ → Parsed → Judgement
 judgeParsed mode WrongSize = Error sizeFault
 judgeParsed mode (Values v) =
-    cond (allowed (commandIn v) (valuesIn v)) (cond (blocked (commandIn v) (valuesIn v) mode) (Error modeFault) (Write v)) (Error valueFault)
+    cond (allowed (commandIn v) (valuesIn v)) (cond (blocked (commandIn v) (valuesIn v) mode) (Error modeFault) (Write v))
+    (Error (valueFault (wrongByte (commandIn v) (valuesIn v))))
 
 pub write-parsed : (c : Command) (mode : ℕ) (d : List ℕ) → judgeWrite c mode d ≡ judgeParsed mode (parsed c d)
 unfolding judgeWrite parsed

@@ -1,6 +1,6 @@
--- Settings that keep the rules, and what a write leaves of them.
+-- Fields that are allowed and the byte that is wrong; settings that keep the rules, and what a write leaves of them.
 use Prim.Native.Nat.{ℕ, _≤_}
-use mathlib.Core.Path.{_≡_, refl, ap, sym, subst}
+use mathlib.Core.Path.{_≡_, refl, ap, sym, subst, _∙_}
 use mathlib.Core.Bool.{Bool, true, false, cond, not, _&&_, and-false}
 use mathlib.Core.List.{List, [], _∷_}
 use native.Mathlib.Omega.{arith}
@@ -10,15 +10,31 @@ use lib.ListN.{length, getD}
 use Rattle.packet.proofs.Cases.{bool-cases, cond-cases, and-left, and-right, and-both}
 use Rattle.command.specs.Data.{Fit}
 use Rattle.command.specs.Table.{table, cmd1For, cmd2For, find, commandOf, same, layout}
-use Rattle.command.specs.Rules.{allowed, blocked, allAllowed, settingsInRule}
+use Rattle.command.specs.Rules.{Field, allRight, firstWrong, allowed, blocked, allAllowed, settingsInRule}
 use Rattle.command.specs.Settings.{valuesOf, factory, valuesAfter, store}
 use Rattle.command.specs.Value.{widths}
+use Rattle.command.specs.Inner.{isNothing}
+use Rattle.command.specs.declared.rules.WrongByte.{WrongByte}
+use Rattle.command.specs.declared.rules.WrongByte.the-variants.{At}
 use Rattle.command.specs.declared.settings.Settings.{Settings}
 use Rattle.command.specs.declared.table.Command.{Command}
 use Rattle.command.specs.declared.table.Command.the-variants.{DisplayMode, TestPattern, LedCurrent, StaticColour, DisplaySetting, VideoInput, VideoMode, PatternSequence, SequenceRun}
 use Rattle.command.specs.declared.table.Found.the-variants.{Known}
 use Rattle.command.proofs.table.Laws.{each, found, find-later, same-eq, fit-length, values-settings}
 use Rattle.command.proofs.data.Laws.{fit-last}
+
+-- no byte is wrong exactly where each field is allowed
+wrong-step : (b : Bool) (n : ℕ) (w : WrongByte) (t : Bool) → isNothing w ≡ t → isNothing (cond b w (At n)) ≡ (b && t)
+wrong-step true n w t e = e
+wrong-step false n w t e = refl
+
+pub nothing-wrong : (fs : List Field) → isNothing (firstWrong fs) ≡ allRight fs
+nothing-wrong [] = refl
+nothing-wrong (f ∷ fs) = wrong-step (f .right) (f .byte) (firstWrong fs) (allRight fs) (nothing-wrong fs)
+
+-- what the code's test says of a check
+pub tested : (fs : List Field) {w : WrongByte} {t : Bool} → w ≡ firstWrong fs → t ≡ isNothing w → t ≡ allRight fs
+tested fs e f = f ∙ ap isNothing e ∙ nothing-wrong fs
 
 -- the settings keep the rules
 pub record Kept (s : Settings) : Type 0 where
@@ -55,7 +71,7 @@ fit-data DisplaySetting v a f = fit-last (1 ∷ 1 ∷ []) 2 1 v (λ _. omega (ar
 fit-data VideoInput v a f = f
 fit-data VideoMode v a f = fit-last (1 ∷ 1 ∷ []) 2 1 v (λ _. omega (arith, most (getD v 2 0) 4 (λ e. simp (e, and-false)) a)) f
 fit-data PatternSequence v a f = fit-last (1 ∷ 1 ∷ 1 ∷ 1 ∷ 4 ∷ 4 ∷ 4 ∷ []) 4 1 v (λ _. omega (arith, most (getD v 7 0) 2 (λ e. simp (e, and-false)) a)) f
-fit-data SequenceRun v a f = fit-last [] 4 1 v (λ _. omega (arith, leb-true (getD v 0 0) 1 a)) f
+fit-data SequenceRun v a f = fit-last [] 4 1 v (λ _. omega (arith, most (getD v 0 0) 1 (λ e. simp e) a)) f
 
 all-allowed : (s : Settings) (cs : List Command) (c : Command) → find (cmd1For c) (cmd2For c) cs ≡ Known c → allAllowed s cs ≡ true → allowed c (valuesOf c s) ≡ true
 unfolding allAllowed find

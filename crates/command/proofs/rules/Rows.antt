@@ -1,12 +1,12 @@
--- A row of the guide, a `match` on the values that it prints, and rows one after another: what the last arm knows of the value, and what `&&` makes of the rows.
+-- A row of the guide, a `match` on the values that it prints, and rows one after another: what the last arm knows of the value, and which row is the first that is wrong; and what `&&` makes of tests.
 use Prim.Native.Nat.{ℕ, zero, suc, _+_, _≤_, _<_}
 use mathlib.Core.Path.{_≡_, refl, sym, _∙_}
 use mathlib.Core.Logic.{_⊎_, inl, inr}
-use mathlib.Core.Bool.{Bool, true, false, _&&_, and-false}
+use mathlib.Core.Bool.{Bool, true, false, not, _&&_, and-false}
 use mathlib.Core.List.{List, [], _∷_}
 use native.Mathlib.Omega.{arith}
 use lib.Dec.{eqb, leb}
-use borrow.Author.Tests.{eqb-false, ne-eqb, le-leb, lt-leb}
+use borrow.Author.Tests.{eqb-false, ne-eqb, le-leb, lt-leb, not-true, not-false}
 use Rattle.packet.proofs.Cases.{lt-cases, and-both, or-left, or-right}
 use Rattle.command.specs.Rules.{oneOf, within}
 
@@ -52,6 +52,13 @@ pub outside : (first n v : ℕ) → Rest Unit (span first (suc n)) v → within 
 outside first n v h =
     lt-cases v first (below first (first + n) v)
     (λ l. beyond first (first + n) v (let m = after first (suc n) v (none (span first (suc n)) v h) l in omega (arith, m)))
+
+-- A check goes from row to row, until a row's test fails: t is the test, A the row's rule.
+pub wrong-row : {t A : Bool} → t ≡ A → not t ≡ true → A ≡ false
+wrong-row {t} e f = sym e ∙ not-true t f
+
+pub right-row : {t A : Bool} → t ≡ A → not t ≡ false → A ≡ true
+right-row {t} e f = sym e ∙ not-false t f
 
 -- Where one test follows another by `&&`: t is what the tests before say, whose rule is A, and f what comes out. On one way t holds and the next test decides, by its rule B; on the other t fails and stands.
 pub meets : {t f A B : Bool} {X Y : Type 0} → t ≡ A → (X → (t ≡ true) × (f ≡ B)) → (Y → (t ≡ false) × (f ≡ t)) → X ⊎ Y → f ≡ (A && B)

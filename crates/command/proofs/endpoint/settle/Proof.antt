@@ -64,7 +64,8 @@ with-transfer-requires c κs =
 returns : tie.Need-returns
 unfolding responseIn judgedIn response
 returns c =
-    let a = c .before in
+    let x = c .before in
+    let a = x .before in
     let e = a .before .before .before .before .before in
     let t = e .before .before .before .before .before in
     let k = t .before .before in
@@ -72,7 +73,8 @@ returns c =
     let w : take (k .kept .result) (now (s .args .hold)) ≡ take (payloadLength (s .args .r .header)) (now (s .args .hold)) =
     in-hold (now (s .args .hold)) (k .kept .result) (payloadLength (s .args .r .header)) (s .pre .1) (rw (k .before .word .ensures .0) at (k .kept .ensures)) in
     rw (
-      c .with-transfer .ensures,
+      c .wrong .ensures,
+      x .with-transfer .ensures,
       e .respond .ensures .0,
       e .respond .ensures .1,
       a .before .before .settings-after .ensures,
@@ -88,4 +90,4 @@ settle-spec =
     tie.close
     (tie.spec (λ c. search needs) (λ c. search needs) (λ c κs. search needs) (λ c κs. search needs) slice-aggregate-payload
     (λ c κs. search needs) judge-requires (λ c. search needs) (λ c. search needs) (λ c κs. search needs) (λ c κs. search needs) transfer-after-requires
-    with-transfer-requires (λ c. search needs) returns)
+    with-transfer-requires (λ c κs. search needs) (λ c. search needs) returns)

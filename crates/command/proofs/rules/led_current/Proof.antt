@@ -1,20 +1,37 @@
 -- `led_current` meets its contract, a row of Table 5 in each call.
-use mathlib.Core.Path.{_≡_, sym, _∙_}
-use mathlib.Core.Bool.{_&&_}
-use lib.Dec.{leb}
+use Prim.Native.Nat.{ℕ}
+use mathlib.Core.Path.{_≡_, refl}
 use borrow.Author.Needs.{needs}
-use Rattle.command.proofs.rules.Rows.{meets}
+use lib.ListN.{drop}
+use Rattle.command.specs.Rules.{firstWrong, currentFields}
+use Rattle.command.specs.declared.rules.WrongByte.{WrongByte}
+use Rattle.command.specs.declared.settings.LedCurrent.{LedCurrent}
+use Rattle.command.proofs.rules.Rows.{wrong-row, right-row}
 use Rattle.command.proofs.rules.led_current.Statement.{statement}
 use Rattle.command.proofs.rules.led_current.Tie as tie
 
-two : (c : tie.Joined1) → let q = c .before .before .args .q in c .if1 .if2 ≡ (leb (q .red .0) 1024 && leb (q .green .0) 1024)
-two c = meets (c .before .led-drive .ensures) (λ w. (w .0 .taken, w .2 ∙ w .1 .ensures)) (λ w. (w .0 .left, w .1)) (c .if1 .came)
+-- what the fields from this one on say
+abbrev from : ℕ → LedCurrent → WrongByte
+from k q = firstWrong (drop k (currentFields q))
+
+-- the rows that are passed are allowed
+one : (c : tie.Else1) {r : WrongByte} → let q = c .before .before .args .q in r ≡ from 1 q → r ≡ from 0 q
+one c h = rw (right-row (c .before .led-drive .ensures) (c .if1 .left)) h
+
+two : (c : tie.Else2) {r : WrongByte} → let q = c .before .before .before .before .args .q in r ≡ from 2 q → r ≡ from 0 q
+two c h = one (c .before .before) (rw (right-row (c .before .led-drive2 .ensures) (c .if2 .left)) h)
+
+three : (c : tie.Else3) {r : WrongByte} → let q = c .before .before .before .before .before .before .args .q in r ≡ from 3 q → r ≡ from 0 q
+three c h = two (c .before .before) (rw (right-row (c .before .led-drive3 .ensures) (c .if3 .left)) h)
 
 returns : tie.Need-returns
-returns c = rw (sym (two (c .before .before)) ∙ c .before .if2 .taken) (c .led-drive3 .ensures)
+returns c = rw (wrong-row (c .before .led-drive .ensures) (c .if1 .taken))
 
 returns-2 : tie.Need-returns-2
-returns-2 c = rw (sym (two (c .before)) ∙ c .if2 .left) (c .if2 .left)
+returns-2 c = one (c .before .before) (rw (wrong-row (c .before .led-drive2 .ensures) (c .if2 .taken)))
+
+returns-3 : tie.Need-returns-3
+returns-3 c = two (c .before .before) (rw (wrong-row (c .before .led-drive3 .ensures) (c .if3 .taken)))
 
 pub led-current-spec : {M : Type 1} → statement M
-led-current-spec = tie.close (tie.spec (λ c κs. search needs) (λ c κs. search needs) (λ c κs. search needs) returns returns-2)
+led-current-spec = tie.close (tie.spec (λ c κs. search needs) returns (λ c κs. search needs) returns-2 (λ c κs. search needs) returns-3 (λ c. three c refl))

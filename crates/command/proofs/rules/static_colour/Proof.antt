@@ -1,5 +1,4 @@
 -- `static_colour` meets its contract.
-use mathlib.Core.Path.{sym}
 use borrow.Author.Tests.{eq-eqb, ne-eqb}
 use Rattle.command.proofs.rules.static_colour.Statement.{statement}
 use Rattle.command.proofs.rules.static_colour.Tie as tie
@@ -7,5 +6,5 @@ use Rattle.command.proofs.rules.static_colour.Tie as tie
 pub static-colour-spec : {M : Type 1} → statement M
 static-colour-spec =
     tie.close (tie.spec
-    (λ c. sym (eq-eqb (c .before .args .q .last) 0 (c .match .keys1)))
-    (λ c. sym (ne-eqb (c .before .args .q .last) 0 (c .match .rest .1))))
+    (λ c. rw (eq-eqb (c .before .args .q .last) 0 (c .match .keys1)))
+    (λ c. rw (ne-eqb (c .before .args .q .last) 0 (c .match .rest .1))))
