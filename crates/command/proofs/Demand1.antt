@@ -5,6 +5,7 @@ use mathlib.Core.Logic.{_↔_, _⊎_, inl, inr}
 use mathlib.Core.Bool.{true, false}
 use mathlib.Core.List.{List, [], _∷_, _++_}
 use native.Mathlib.Omega.{arith}
+use mathlib.Core.Option.{some}
 use lib.Dec.{eqb, ltb}
 use lib.ListN.{length, take, drop, getD, length-append}
 use lib.Seq.{take-at, drop-at}
@@ -26,7 +27,7 @@ use Rattle.command.specs.Faults.{Arrived, arrived, faults, anyFault, siz
 use Rattle.command.specs.Judgement.{completes, judge}
 use Rattle.command.specs.Carry.{settingsAfter, transferAfter}
 use Rattle.command.specs.Response.{responseType, codesIn, response}
-use Rattle.command.specs.Player.{State, from, judged, next, judgements, after, endSettings, endClean}
+use Rattle.command.specs.Player.{State, from, judged, next, judgements, after, endSettings, endOffence}
 use Rattle.command.specs.Controller.{transferOf, stateOf, transferStateAfter, inRule}
 use Rattle.command.specs.Endpoint.{takenBy, arrivedIn, judgedIn, responseIn, After, answered, receiveCall}
 use Rattle.command.specs.Sending.{Sending, sentTo, Boundary}
@@ -336,7 +337,7 @@ sent-settings : (c : Controller) (b : List ℕ) (s : Sending b) → Boundary c �
 sent-settings c b s k = ap (λ (a : State). a .settings) (follows-played c b s k .ends)
 
 -- settings out of rule are not played
-not-played : (s : Settings) (b : List ℕ) → SettingsOutOfRule s → (endSettings s b ≡ s) × (endClean s b ≡ false)
+not-played : (s : Settings) (b : List ℕ) → SettingsOutOfRule s → (endSettings s b ≡ s) × (endOffence s b ≡ some 0)
 not-played s b h = rw (settings-out s .1 h) (refl, refl)
 
 -- Demand 1, whole.

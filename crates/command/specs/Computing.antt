@@ -12,8 +12,8 @@ use Rattle.command.specs.Inner.{faultsOf}
 use Rattle.command.specs.Faults.{wrongCommand, tooLong, wrongOrder, faults, anyFault, listIf, codesOf}
 use Rattle.command.specs.Judgement.{judgeWrite, judgeRead, judgeData, judgeAs, judge}
 use Rattle.command.specs.Response.{response}
-use Rattle.command.specs.Player.{judged, next, judgements, responses, after, play, allAcknowledged, clean}
+use Rattle.command.specs.Player.{judged, next, judgements, responses, after, play, allAcknowledged, notAcknowledged, leftOpen, unfinished, offence}
 
 unfoldable pub playing : Unit {0}
-unfolding joined valueOf bytesOf payload sum checksum rightSum sealed packetOf size hasPacket packetsIn packets bytesIn rest find commandOf sizeOf factory blocked valuesAfter store splitAll joinAll dataOf wrongCommand tooLong wrongOrder faultsOf faults anyFault listIf codesOf judgeWrite judgeRead judgeData judgeAs judge response judged next judgements responses after play allAcknowledged clean
+unfolding joined valueOf bytesOf payload sum checksum rightSum sealed packetOf size hasPacket packetsIn packets bytesIn rest find commandOf sizeOf factory blocked valuesAfter store splitAll joinAll dataOf wrongCommand tooLong wrongOrder faultsOf faults anyFault listIf codesOf judgeWrite judgeRead judgeData judgeAs judge response judged next judgements responses after play allAcknowledged notAcknowledged leftOpen unfinished offence
 playing = tt

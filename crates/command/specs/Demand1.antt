@@ -6,6 +6,7 @@ use mathlib.Core.Path.{_≡_}
 use mathlib.Core.Logic.{_↔_, _⊎_}
 use mathlib.Core.Bool.{false, cond}
 use mathlib.Core.List.{List, [], _∷_, _++_, List·Memᴰ}
+use mathlib.Core.Option.{some}
 use lib.ListN.{length, take, drop, getD}
 use Rattle.packet.specs.Answer.{Refuses, Waits, Answers, Answering}
 use Rattle.packet.specs.Packet.{typeOf, cmd1Of, cmd2Of, flagsOf, payloadLength, payload, checksum, packetOf, error, hostWrite, hostRead, writeResponse, readResponse, whole, beginning, intermediate, last}
@@ -19,7 +20,7 @@ use Rattle.command.specs.Value.{commandIn, valuesIn, dataOf}
 use Rattle.command.specs.Transfer.{Transfer, Closed, Opened, held}
 use Rattle.command.specs.Faults.{Arrived, arrived}
 use Rattle.command.specs.Response.{response}
-use Rattle.command.specs.Player.{State, from, judged, next, judgements, endSettings, endClean}
+use Rattle.command.specs.Player.{State, from, judged, next, judgements, endSettings, endOffence}
 use Rattle.command.specs.Controller.{stateOf}
 use Rattle.command.specs.Endpoint.{takenBy, arrivedIn, responseIn, receiveCall}
 use Rattle.command.specs.Encoder.{encoded, standardList, encodeCall, listCall}
@@ -222,8 +223,8 @@ pub record Demand1 : Type 0 where
       let t = takenBy c input in
       Answering (λ n. r .answer ≡ Refuses n) out 64 3 (OutOfRule c) ((r .controller ≡ c) × (r .output ≡ out))
       (r .answer ≡ cond (t .complete) (Answers (t .taken) (length (responseIn c t))) (Waits (length input)))
-  -- playing is no call of the table: settings out of rule are not played, they stay and nothing is clean
-  pub play : (s : Settings) (b : List ℕ) → SettingsOutOfRule s → (endSettings s b ≡ s) × (endClean s b ≡ false)
+  -- playing is no call of the table: settings out of rule are not played, they stay and the first byte offends
+  pub play : (s : Settings) (b : List ℕ) → SettingsOutOfRule s → (endSettings s b ≡ s) × (endOffence s b ≡ some 0)
   -- the encoder: 1 and 2; else the length of one whole packet
   pub encode : (v : Value) (out : List ℕ)
       → let r = encodeCall v out in

@@ -3,7 +3,8 @@ use Prim.Native.Nat.{ℕ, zero, suc, _+_, _*_, _≤_}
 use mathlib.Core.Path.{_≡_}
 use mathlib.Core.Bool.{Bool, true, false, cond, not, _&&_}
 use mathlib.Core.List.{List, [], _∷_, _++_}
-use lib.Dec.{eqb}
+use mathlib.Core.Option.{Option, none, some}
+use lib.Dec.{eqb, ltb}
 use lib.ListN.{length, take, getD}
 use Rattle.packet.specs.Number.{bytesOf}
 use Rattle.command.specs.Table.{table, hasCode, layout, sizeOf}
@@ -96,6 +97,10 @@ faultsOf c opened ours n type flags size right =
       continuation = wrongOrder opened ours type flags;
       wrong = Nothing;
     }
+
+-- a place by a number: none where it is the end or behind it. The play call's code counts so; its contract is by `offence`
+abbrev pub placeBefore : ℕ → ℕ → Option ℕ
+placeBefore end n = cond (ltb n end) (some n) none
 
 -- the state of the head by its settings, its transfer's numbers and the array of the transfer's data: stateOf of a controller that has these, by computing
 abbrev pub stateIn : Settings → TransferState → List ℕ → State

@@ -1,9 +1,11 @@
 -- Playing bytes from given settings, and the play call.
-use Prim.Native.Nat.{ℕ}
-use mathlib.Core.Bool.{Bool, true, false, not, _&&_, cond}
+use Prim.Native.Nat.{ℕ, _+_, min}
+use mathlib.Core.Bool.{Bool, true, false, _&&_, cond}
 use mathlib.Core.List.{List, [], _∷_}
+use mathlib.Core.Option.{Option, none, some}
+use lib.ListN.{length}
 use Rattle.packet.specs.Calls.{joined}
-use Rattle.packet.specs.Stream.{packets, rest}
+use Rattle.packet.specs.Stream.{packets, bytesIn, rest}
 use Rattle.command.specs.Rules.{settingsInRule}
 use Rattle.command.specs.Transfer.{Transfer, Closed, isOpen}
 use Rattle.command.specs.Faults.{arrived}
@@ -12,6 +14,8 @@ use Rattle.command.specs.Carry.{settingsAfter, transferAfter}
 use Rattle.command.specs.Response.{acknowledged, response}
 use Rattle.command.specs.declared.settings.Settings.{Settings}
 use Rattle.command.specs.declared.judgement.Judgement.{Judgement}
+use Rattle.command.specs.declared.player.Offence.{Offence}
+use Rattle.command.specs.declared.player.Offence.the-variants.{At, Nothing}
 
 -- the settings, and one open transfer or none
 pub record State : Type 0 where
@@ -70,13 +74,42 @@ abbrev pub isNil : List ℕ → Bool
 isNil [] = true
 isNil (x ∷ xs) = false
 
--- each packet is acknowledged, and no packet or transfer is left half sent
-unfoldable pub clean : Settings → List ℕ → Bool
-clean s b = allAcknowledged (judgementsOn s b) && not (isOpen (play s b .transfer)) && isNil (halfSent b)
+-- Where bytes that are played offend: "the first byte of the offending packet, or of the unfinished one, or of the packet that opened the transfer left open; of
+-- these the earliest" (request 4). Places are counted from the first byte played.
 
--- The play call: settings out of rule are not played. They stay, and nothing is clean.
+-- the first packet that is not acknowledged, the first of these packets being at this place
+unfoldable pub notAcknowledged : ℕ → State → List (List ℕ) → Option ℕ
+notAcknowledged at a [] = none
+notAcknowledged at a (p ∷ ps) = cond (acknowledged (judged a p)) (notAcknowledged (at + length p) (next a p) ps) (some at)
+
+-- the packet that opened the transfer that is left open. A packet that comes while none is open opens the one that is open after it; the transfer that is open
+-- before these packets, if there is one, was opened at the place `opener`.
+unfoldable pub leftOpen : ℕ → ℕ → State → List (List ℕ) → Option ℕ
+leftOpen opener at a [] = cond (isOpen (a .transfer)) (some opener) none
+leftOpen opener at a (p ∷ ps) = leftOpen (cond (isOpen (a .transfer)) opener at) (at + length p) (next a p) ps
+
+-- the unfinished packet: it begins where the whole packets end
+unfoldable pub unfinished : List ℕ → Option ℕ
+unfinished b = cond (isNil (halfSent b)) none (some (bytesIn (packets b)))
+
+-- the earlier of two places
+abbrev pub earliest : Option ℕ → Option ℕ → Option ℕ
+earliest none o = o
+earliest (some m) none = some m
+earliest (some m) (some n) = some (min m n)
+
+-- none exactly when each packet is acknowledged, and no packet or transfer is left half sent
+unfoldable pub offence : Settings → List ℕ → Option ℕ
+offence s b = earliest (notAcknowledged 0 (from s) (packets b)) (earliest (unfinished b) (leftOpen 0 0 (from s) (packets b)))
+
+-- The play call: settings out of rule are not played. They stay, and the first byte offends.
 abbrev pub endSettings : Settings → List ℕ → Settings
 endSettings s b = cond (settingsInRule s) (play s b .settings) s
 
-abbrev pub endClean : Settings → List ℕ → Bool
-endClean s b = settingsInRule s && clean s b
+abbrev pub endOffence : Settings → List ℕ → Option ℕ
+endOffence s b = cond (settingsInRule s) (offence s b) (some 0)
+
+-- the place that its answer names
+abbrev pub placeOf : Offence → Option ℕ
+placeOf (At n) = some n
+placeOf Nothing = none

@@ -5,6 +5,7 @@ use mathlib.Core.Path.{_≡_}
 use mathlib.Core.Logic.{_↔_, _⊎_}
 use mathlib.Core.Bool.{true, false, _&&_}
 use mathlib.Core.List.{List, [], _∷_, map}
+use mathlib.Core.Option.{some}
 use lib.ListN.{length, take, replicate}
 use Rattle.packet.specs.Answer.{Answers}
 use Rattle.packet.specs.Packet.{hostWrite}
@@ -13,7 +14,7 @@ use Rattle.command.specs.Fields.{sequenceFrom}
 use Rattle.command.specs.Rules.{within, mostPatterns, allowed}
 use Rattle.command.specs.Data.{splitAll}
 use Rattle.command.specs.Faults.{Arrived}
-use Rattle.command.specs.Player.{State, endSettings, endClean}
+use Rattle.command.specs.Player.{State, endSettings, endOffence}
 use Rattle.command.specs.Controller.{stateOf}
 use Rattle.command.specs.Endpoint.{takenBy, arrivedIn, receiveCall, refused}
 use Rattle.command.specs.Encoder.{encodeCall, listCall}
@@ -70,6 +71,6 @@ pub record Request2 : Type 0 where
   -- "refusal 3": a controller whose settings have more is refused by the receive call, and settings that have more by the standard list; they are not played
   pub receive : (c : Controller) (input out : List ℕ) → 64 ≤ length out → TooMany (c .settings .sequence) → receiveCall c input out ≡ refused 3 c out
   pub list : (s : Settings) (out : List ℕ) → 128 ≤ length out → TooMany (s .sequence) → listCall s out ≡ encoder.refused 3 out
-  pub play : (s : Settings) (b : List ℕ) → TooMany (s .sequence) → (endSettings s b ≡ s) × (endClean s b ≡ false)
+  pub play : (s : Settings) (b : List ℕ) → TooMany (s .sequence) → (endSettings s b ≡ s) × (endOffence s b ≡ some 0)
   -- "the encoder": refusal 2
   pub encode : (q : Sequence) (out : List ℕ) → 64 ≤ length out → TooMany q → encodeCall (value.PatternSequence q) out ≡ encoder.refused 2 out

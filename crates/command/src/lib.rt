@@ -37,6 +37,7 @@ pub use endpoint::Step;
 pub use endpoint::receive;
 pub use endpoint::serve;
 pub use output::OUTPUT;
+pub use player::Offence;
 pub use player::Played;
 pub use player::play;
 pub use transfer::HOLD;

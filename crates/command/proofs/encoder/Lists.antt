@@ -13,7 +13,7 @@ use Rattle.command.specs.Table.{table, cmd1For, cmd2For, layout, sizeOf}
 use Rattle.command.specs.Settings.{valuesOf, factory, valuesAfter, store}
 use Rattle.command.specs.Rules.{blocked}
 use Rattle.command.specs.Value.{dataOf, valueFrom}
-use Rattle.command.specs.Player.{State, from, judgements, after, play, allAcknowledged, clean}
+use Rattle.command.specs.Player.{State, from, judgements, after, play, judgementsOn, halfSent, allAcknowledged}
 use Rattle.command.specs.Encoder.{writePacket, encoded, listOf, standardList}
 use Rattle.command.specs.declared.table.Command.{Command}
 use Rattle.command.specs.declared.settings.Settings.{Settings}
@@ -121,11 +121,13 @@ module _ (s : Settings) (k : Kept s) (f : Fits s) where
   unfolding standardList
   standard-plays = plays table factory free-table .ends ∙ ap from all-stored
 
-  pub standard-clean : clean factory (standardList s) ≡ true
-  unfolding clean standardList
-  standard-clean =
-      let p = plays table factory free-table in
-      rw (p .good, p .none, p .ends)
+  pub standard-acknowledged : allAcknowledged (judgementsOn factory (standardList s)) ≡ true
+  unfolding standardList
+  standard-acknowledged = plays table factory free-table .good
+
+  pub standard-finished : halfSent (standardList s) ≡ []
+  unfolding standardList
+  standard-finished = plays table factory free-table .none
 
 -- 111 bytes
 pub standard-size : (s : Settings) → length (standardList s) ≡ 111

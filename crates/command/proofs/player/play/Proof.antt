@@ -1,35 +1,33 @@
 -- `play` meets its contract. The loop's invariant: what is left of the bytes goes on from where the play stands.
 use Prim.Native.Nat.{ℕ, _+_, _≤_, _<_, _-_}
 use mathlib.Core.Path.{_≡_, refl, sym, ap, _∙_}
-use mathlib.Core.Bool.{true, not, Bool·not-not}
-use mathlib.Core.List.{List}
+use mathlib.Core.Bool.{true, false, cond}
+use mathlib.Core.Option.{Option, none}
 use native.Mathlib.Omega.{arith}
-use lib.Dec.{eqb}
 use lib.ListN.{length, take, drop, length-drop}
 use lib.Seq.{length-take-le}
 use borrow.Author.Needs.{needs}
 use borrow.Author.Tests.{not-true, not-false}
 use denote.Ref.{now}
-use Rattle.packet.specs.Stream.{size}
+use Rattle.packet.specs.Stream.{size, hasPacket}
 use Rattle.packet.proofs.NumberLaws.{bytes-at, bytes-take, bytes-drop}
-use Rattle.packet.proofs.StreamLaws.{size-most}
+use Rattle.packet.proofs.StreamLaws.{size-most, next-none, no-header}
 use Rattle.command.specs.Rules.{settingsInRule}
-use Rattle.command.specs.Controller.{transferIn, transferInRule}
-use Rattle.command.specs.Transfer.{isOpen}
-use Rattle.command.specs.Inner.{stateIn}
+use Rattle.command.specs.Controller.{transferInRule}
+use Rattle.command.specs.Inner.{isOpenIn, stateIn, placeBefore}
 use Rattle.command.proofs.transfer.Laws.{open-is}
-use Rattle.command.specs.Player.{judged}
+use Rattle.command.specs.Player.{judged, earliest, endSettings, endOffence}
 use Rattle.command.proofs.carry.Laws.{buffer-kept}
-use Rattle.command.proofs.player.Turns.{Going, Turned, going-start, going-packet, going-stop, going-done, next-packet, rule-kept}
+use Rattle.command.proofs.player.Turns.{Going, Turned, going-start, going-packet, going-end, next-packet, rule-kept}
 use Rattle.command.proofs.player.play.Statement.{statement}
 use Rattle.command.proofs.player.play.Tie as tie
 
 abbrev Inv-loop : tie.InvT-loop
-Inv-loop b settings₀ transfer₀ buffer₀ acknowledged₀ at₀ settings transfer buffer acknowledged at =
-    (at ≤ length b) × (transferInRule transfer ≡ true) × (length buffer ≡ 1024) × Going settings₀ b (stateIn settings transfer buffer) acknowledged at
+Inv-loop b end settings₀ transfer₀ buffer₀ refused₀ opener₀ at₀ settings transfer buffer refused opener at =
+    (at ≤ length b) × (transferInRule transfer ≡ true) × (length buffer ≡ 1024) × Going settings₀ b (stateIn settings transfer buffer) refused opener at
 
 abbrev μ-loop : tie.MeasureT-loop
-μ-loop b settings₀ transfer₀ buffer₀ acknowledged₀ at₀ settings transfer buffer acknowledged at = length b - at
+μ-loop b end settings₀ transfer₀ buffer₀ refused₀ opener₀ at₀ settings transfer buffer refused opener at = length b - at
 
 -- the settings are in rule past the test
 ruled : (c : tie.Else1 Inv-loop μ-loop) → settingsInRule (c .before .before .before .args .s) ≡ true
@@ -46,21 +44,31 @@ loop-holds c =
     let a = c .before .before .before .args in
     (omega arith, refl, refl, going-start (a .s) (now (a .b)))
 
--- too few bytes for a packet
+-- no packet stands at the place: what is left there is an unfinished one, or nothing
+ended : (l : tie.At-loop Inv-loop μ-loop) {o : Option ℕ}
+    → let a = l .before .before .before .before .args in
+    let n = length (now (a .b)) in
+    hasPacket (drop (l .loop .at) (now (a .b))) ≡ false
+    → o ≡ earliest (placeBefore n (l .loop .refused)) (earliest (placeBefore n (l .loop .at)) (cond (isOpenIn (l .loop .transfer)) (placeBefore n (l .loop .opener)) none))
+    → (l .loop .settings ≡ endSettings (a .s) (now (a .b))) × (o ≡ endOffence (a .s) (now (a .b)))
+ended l h e =
+    let g = going-end (l .loop .inv .3) h (l .loop .inv .0) in
+    rw (ruled (l .before)) (g .0, e ∙ rw (← open-is (l .loop .transfer) (l .loop .inv .1) (l .loop .buffer)) (g .1))
+
 returns-2 : tie.Need-returns-2 Inv-loop μ-loop
 returns-2 c =
-    let l = c .before .before .before .before in
-    rw (ruled (l .before)) (going-stop (l .loop .inv .3) (sym (c .before .before .next-packet .ensures) ∙ c .enum-told .given .1) (c .before .before .before .loop-test .taken))
+    let t = c .before in
+    ended (t .before .before .before .before) (next-none _ (sym (t .before .before .next-packet .ensures) ∙ t .enum-told .given .1)) (c .offence-at .ensures)
 
 -- the packet that stands at the place, and the play after it
 turn : (c : tie.After-size Inv-loop μ-loop)
     → let l = c .before .before .before .before in
     let a = l .before .before .before .before .args in
-    Turned (a .s) (now (a .b)) (stateIn (l .loop .settings) (l .loop .transfer) (l .loop .buffer)) (l .loop .acknowledged) (l .loop .at)
+    Turned (a .s) (now (a .b)) (stateIn (l .loop .settings) (l .loop .transfer) (l .loop .buffer)) (l .loop .refused) (l .loop .opener) (l .loop .at)
     (c .size .given .0 .0) (c .size .given .0 .1 .0)
 turn c =
     let l = c .before .before .before .before in
-    going-packet (l .loop .inv .3) (c .size .given .0 .0) (c .size .given .0 .1 .0) (sym (c .before .before .next-packet .ensures) ∙ c .size .given .1) (l .loop .inv .0)
+    going-packet (l .loop .inv .3) (c .size .given .0 .0) (c .size .given .0 .1 .0) (sym (c .before .before .next-packet .ensures) ∙ c .size .given .1) (c .before .before .before .loop-test .taken)
 
 -- all of it is in the slice
 within : (c : tie.After-size Inv-loop μ-loop)
@@ -98,7 +106,7 @@ counted c =
 
 -- the packet, seen from where its payload is handed on
 abbrev part : tie.After-buffer2 Inv-loop μ-loop → tie.After-size Inv-loop μ-loop
-part c = c .before .before .before .before .before .before .before
+part c = c .before .before .before .before .before .before .before .before
 
 judge-packet-requires : tie.Need-judge-packet-requires Inv-loop μ-loop
 judge-packet-requires c κs =
@@ -110,7 +118,7 @@ judge-packet-requires c κs =
 
 transfer-after-requires : tie.Need-transfer-after-requires Inv-loop μ-loop
 transfer-after-requires c κs =
-    let k = c .before .before .before .before .before .before .before .before in
+    let k = c .before .before .before .before .before .before .before .before .before in
     let l = k .before .before .before .before in
     let n = counted k in
     let p = take (k .size .given .0 .0) (drop (l .loop .at) (now (l .before .before .before .before .args .b))) in
@@ -119,7 +127,8 @@ transfer-after-requires c κs =
 loop-again : tie.Need-loop-again Inv-loop μ-loop
 unfolding judged
 loop-again c =
-    let g = c .before .before .before .before .before in
+    let f = c .before .before .before .before .before in
+    let g = f .before in
     let k = g .before .before .before .before in
     let l = k .before .before .before .before in
     let o = l .loop in
@@ -128,34 +137,38 @@ loop-again c =
     let j = rw (handed k) at (g .judge-packet .ensures) in
     let x = rw (handed k) at (c .transfer-after .ensures .0) in
     let y = rw (handed k) at (c .transfer-after .ensures .1) in
-    let f = ap (λ (i : ℕ). take (i - 1 - 6) (drop 6 p)) (sym (counted k .0)) in (
+    let z = ap (λ (i : ℕ). take (i - 1 - 6) (drop 6 p)) (sym (counted k .0)) in (
       t .within,
-      rw x (rule-kept (o .settings) (o .transfer) (o .buffer) p (o .inv .1) (o .inv .2) (t .whole) f j),
+      rw x (rule-kept (o .settings) (o .transfer) (o .buffer) p (o .inv .1) (o .inv .2) (t .whole) z j),
       rw y (buffer-kept (o .transfer) (o .buffer) _ (g .judge-packet .result) ∙ o .inv .2),
-      rw (c .before .before .before .settings-after .ensures, x, y, next-packet (o .settings) (o .transfer) (o .buffer) p (o .inv .1) (o .inv .2) (t .whole) f j, c .before .before .before .before .response-type .ensures, j)
-          (t .going),
+      rw (
+        c .before .before .before .settings-after .ensures,
+        x,
+        y,
+        next-packet (o .settings) (o .transfer) (o .buffer) p (o .inv .1) (o .inv .2) (t .whole) z j,
+        f .first-refused .ensures,
+        c .before .before .before .before .opener-with .ensures,
+        ← open-is (o .transfer) (o .inv .1) (o .buffer),
+        j,
+      ) (t .going),
     )
 
 returns-3 : tie.Need-returns-3 Inv-loop μ-loop
 returns-3 c =
     let l = c .before .before in
-    let a = l .before .before .before .before .args in
-    let g = going-done (l .loop .inv .3) (omega arith) in
-    let o : not (isOpen (transferIn (l .loop .transfer) (l .loop .buffer))) ≡ eqb (l .loop .transfer .active) 0 =
-    ap not (open-is (l .loop .transfer) (l .loop .inv .1) (l .loop .buffer)) ∙ Bool·not-not (eqb (l .loop .transfer .active) 0) in
-    rw (ruled (l .before), ← o) g
+    ended l (no-header _ (omega (arith, length-drop (l .loop .at) (now (l .before .before .before .before .args .b)), c .before .loop-test .left))) (c .offence-at2 .ensures)
 
 pub play-spec : {M : Type 1} → statement M
 play-spec =
     tie.close
     (tie.spec Inv-loop μ-loop (λ c κs. search needs) returns loop-holds (λ c κs. search needs) (λ c. search needs)
-    (λ c. search needs) returns-2
+    (λ c. search needs) (λ c κs. search needs) returns-2
     (λ c. omega (arith, within (c .before))) (λ c. search needs) (λ c. search needs)
     (λ c. let h = turn (c .before) .within in omega arith)
     (λ c. let l = c .before .before .before .before .before .before .before in omega (arith, l .loop .inv .2))
-    judge-packet-requires (λ c κs. search needs) (λ c κs. search needs)
+    judge-packet-requires (λ c κs. search needs) (λ c κs. search needs) (λ c κs. search needs)
     (λ c. omega (arith, turn (part c) .least)) (λ c. omega (arith, turn (part c) .least)) (λ c. omega (arith, turn (part c) .least))
     (λ c. let h = counted (part c) .0 in rw (handed (part c)) (omega (arith, turn (part c) .least, h)))
-    transfer-after-requires (λ c. omega (arith, within (c .before .before .before .before .before .before .before .before .before)))
-    (λ c. let t = turn (c .before .before .before .before .before .before .before .before .before) in omega (arith, t .least, t .within)) loop-again
-    returns-3)
+    transfer-after-requires (λ c. omega (arith, within (c .before .before .before .before .before .before .before .before .before .before)))
+    (λ c. let t = turn (c .before .before .before .before .before .before .before .before .before .before) in omega (arith, t .least, t .within)) loop-again
+    (λ c κs. search needs) returns-3)
