@@ -65,14 +65,14 @@ packet-shows a b cmd1 cmd2 d e h = (
 
 module _ (s : Settings) (p : Arrived) where
   -- a response is an error packet exactly when the judgement is an error
-  error-response : (j : Judgement) (codes : List ℕ) → IsError j codes → response s p j ≡ errorPacket p codes
+  pub error-response : (j : Judgement) (codes : List ℕ) → IsError j codes → response s p j ≡ errorPacket p codes
   unfolding response
   error-response (Error k) codes h = rw (h .lists)
   error-response (Hold c) codes h = absurd (omega (arith, h .type))
   error-response (Write v) codes h = absurd (omega (arith, h .type))
   error-response (Read c) codes h = absurd (omega (arith, h .type))
 
-  response-error : (j : Judgement) (codes : List ℕ) → response s p j ≡ errorPacket p codes → IsError j codes
+  pub response-error : (j : Judgement) (codes : List ℕ) → response s p j ≡ errorPacket p codes → IsError j codes
   unfolding response
   response-error (Error k) codes h = record { type = refl; lists = packet-shows error error (p .cmd1) (p .cmd2) (codesOf k) codes h .1 }
   response-error (Hold c) codes h = absurd (omega (arith, packet-shows (responseType (Hold c)) error (p .cmd1) (p .cmd2) [] codes h .0))
@@ -239,7 +239,7 @@ module _ (c : Controller) (input out : List ℕ) where
   abbrev received : Received
   received = takenBy c input
 
-  answers-by : (n m : ℕ) → receiveCall c input out .answer ≡ Answers n m → receiveCall c input out ≡ answered c received out
+  pub answers-by : (n m : ℕ) → receiveCall c input out .answer ≡ Answers n m → receiveCall c input out ≡ answered c received out
   unfolding receiveCall
   answers-by n m =
       let P : After → Type 0 = λ x. x .answer ≡ Answers n m → x ≡ answered c received out in
@@ -252,7 +252,7 @@ module _ (c : Controller) (input out : List ℕ) where
       waits : {P : Type 0} {k : ℕ} → Waits k ≡ Answers n m → P
       waits h = let z : _≡_ {A = ℕ} 0 1 = cc in absurd (omega arith)
 
-  answer-length : (n m : ℕ) → receiveCall c input out .answer ≡ Answers n m → m ≡ length (responseIn c received)
+  pub answer-length : (n m : ℕ) → receiveCall c input out .answer ≡ Answers n m → m ≡ length (responseIn c received)
   answer-length n m h = same-answer (sym h ∙ ap (λ (x : After). x .answer) (answers-by n m h))
     where
       same-answer : {k l : ℕ} → Answers n m ≡ Answers k l → m ≡ l

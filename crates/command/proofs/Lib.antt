@@ -1,8 +1,9 @@
--- Demands 1 and 2 of the endpoint, request 2, and the laws that crates above cite.
+-- Demands 1 and 2 of the endpoint, requests 2 and 4, and the laws that crates above cite.
 pub mod Refusals
 pub mod Demand1
 pub mod Demand2
 pub mod Request2
+pub mod Request4
 pub use Rattle.command.proofs.table.Laws as TableLaws
 pub use Rattle.command.proofs.rules.Laws as RulesLaws
 pub use Rattle.command.proofs.judgement.Laws as JudgementLaws

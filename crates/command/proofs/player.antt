@@ -1,3 +1,4 @@
 -- The laws of player.
 pub mod Laws
 pub mod Turns
+pub mod Offences

@@ -18,6 +18,7 @@ pub mod Sending
 pub mod Demand1
 pub mod Demand2
 pub mod Request2
+pub mod Request4
 pub mod Lent
 pub mod Inner
 pub mod Computing
