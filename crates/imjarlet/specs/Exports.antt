@@ -19,10 +19,10 @@ use Rattle.report.specs.Report as tuning
 use Rattle.report.specs.Claim.{Demand3}
 use Rattle.imjarlet.specs.declared.verdict.Verdict.{Verdict}
 
--- A receive call that does as `after` says: the refusal, the bytes taken, the response's length, the controller and the output afterwards.
-abbrev pub Receives : endpoint.After → ℕ → ℕ → ℕ → Controller → List ℕ → Type 0
-Receives after refusal taken size controller output =
-    Performed (after .answer) (after .controller) (after .output) refusal taken size controller output
+-- A receive call that does as `after` says: the refusal, the bytes taken, the response's length, `wrong`, which is 0, the controller and the output afterwards.
+abbrev pub Receives : endpoint.After → ℕ → ℕ → ℕ → ℕ → Controller → List ℕ → Type 0
+Receives after refusal taken size wrong controller output =
+    Performed (after .answer) (after .controller) (after .output) refusal taken size controller output × (wrong ≡ 0)
 
 -- A call of the encoder, or of the standard list, that does as `after` says: the refusal, the length written at the output's start, the output afterwards.
 pub record Emits (after : encoding.After) (refusal size : ℕ) (output : List ℕ) : Type 0 where

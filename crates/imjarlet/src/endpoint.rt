@@ -38,15 +38,17 @@ fn step(
     out: &mut [u8],
     taken: &mut u64,
     size: &mut u64,
+    wrong: &mut u64,
 ) -> Stepped
     ensures { λ s. ⌜ Receives (receiveCall (controllerOf settings registers (now (buffer .entry)) (now (hold .entry))) (now (input .entry)) (now (out .entry)))
-        (s .refusal) (now (taken .exit)) (now (size .exit)) (controllerOf (cond (s .stored) (s .settings) settings) (s .registers) (now (buffer .exit)) (now (hold .exit))) (now (out .exit)) ⌝ }
+        (s .refusal) (now (taken .exit)) (now (size .exit)) (now (wrong .exit)) (controllerOf (cond (s .stored) (s .settings) settings) (s .registers) (now (buffer .exit)) (now (hold .exit))) (now (out .exit)) ⌝ }
 {
     let s = command::serve(settings, registers, buffer, hold, input, out);
     let after = s.settings;
     let left = s.registers;
     let answer = s.answer;
     let refusal = packet::told(answer, taken, size);
+    *wrong = 0;
     Stepped {
         settings: after,
         registers: left,
@@ -64,9 +66,10 @@ pub extern "C" fn imjarlet_receive(
     out: &mut [u8],
     taken: &mut u64,
     size: &mut u64,
+    wrong: &mut u64,
 ) -> u32
     ensures { λ r. ⌜ Receives (receiveCall (now (c .entry)) (now (input .entry)) (now (out .entry)))
-        r (now (taken .exit)) (now (size .exit)) (now (c .exit)) (now (out .exit)) ⌝ }
+        r (now (taken .exit)) (now (size .exit)) (now (wrong .exit)) (now (c .exit)) (now (out .exit)) ⌝ }
 {
     let s = step(
         c.settings,
@@ -77,6 +80,7 @@ pub extern "C" fn imjarlet_receive(
         out,
         taken,
         size,
+        wrong,
     );
     c.registers = s.registers;
     if s.stored {

@@ -10,7 +10,7 @@
 mod Arrays
 pub mod InPlace
 use mathlib.Core.Path.{_≡_, refl, sym, ap, subst}
-use Prim.Native.Nat.{ℕ, _+_}
+use Prim.Native.Nat.{ℕ, suc, _+_}
 use mathlib.Core.List.{List, [], _∷_, _++_, map}
 use lib.Dec.{T as Holds, lit<}
 use lib.ListN.{length}
@@ -26,7 +26,7 @@ use prog.Routine.{Routine, Env}
 use prog.Wp.{Heap, Env as Places, Calls, Loops, WpFn, Tables, Closed, spotOf}
 use ghost.Atoms.{Atoms}
 use contract.Monad.{Fun, fact}
-use contract.Lifetimes.{Lfts, Shares, Within, lftAt}
+use contract.Lifetimes.{Lfts, Shares, Within, lftAt, toks}
 use contract.Running.{Running, GhostRules, givenOf, tables, tablesOf}
 use types.Kit.{Given, Item, nth, del, pull, Post, Goal, prop, runs, lands, frees, Soaks, Seq, Step, step, mean, given, learn, show, check, ‵, raw, some, later, _⊛_, ⋆, _$_, _∵_, !, qed, move, keep, drop, use1, split, split3, join, pick, rewrite, fsplit, fsplit3, fjoin, fjoin3, feqL, feqI, suffices, frame, await, done}
 use types.Run.{Finds, Opds, Rv, look, look-raw, init, store-raw, stop, hop, fld, from, load, addr, of-opd, lit, and-then, no-more, assigns, land, returns, enter, alloc1, alloc0, params1, pass1, pass0, free0}
@@ -51,12 +51,12 @@ use denote.Exit.{yes}
 use denote.Triple.Statement.{Contract, Triple}
 use denote.Triple.Bound.{Bound, passed}
 use denote.Triple.Call.{calls-from}
-use denote.Triple.End.{all}
+use denote.Triple.End.{all, Fins}
 use denote.Triple.Clauses.{Ended, Clauses, Lasts, AtExit, atExit, closing, lasts}
 use denote.Triple.Entry.{Args, Res, alive, onEntry}
 use denote.Triple.Spec.{tripleOf}
 use denote.Triple.Table.{entered, cited}
-use denote.Triple.Walked.{says, Stay, Stays, Fit, onExit, Goes, AllGo, stay-none, stay-ref, stay-none-slice, stay-none-ref, gave-ref, gave-slice, walkOf, goes-ref, goes-none, goes-none-slice, goes-none-ref, goes-gave-ref, goes-gave-slice, ends-at, walked, walk-meets}
+use denote.Triple.Walked.{says, Stay, Stays, Fit, onExit, Goes, AllGo, stay-none, stay-ref, stay-none-slice, stay-none-ref, gave-ref, gave-slice, walkOf, fitsOf, hasOf, goes-ref, goes-none, goes-none-slice, goes-none-ref, goes-gave-ref, goes-gave-slice, ends-at, walked, walk-meets}
 
 -- ---- the types
 -- A type by value that owns facts alone, so that a copy costs nothing: one machine value, of one MIR type, that the denotation tells.
@@ -583,34 +583,25 @@ module _ (c : Fill) where
   pub fills : {M : Type 1} (𝓤 : URA M) (H : Heap 𝓤) (𝓜 : Model 𝓤 H) (𝓖 : GhostRules 𝓤 H) (𝓡 : Running 𝓤 H 𝓜) → Proves fill-law 𝓤 H 𝓜 𝓖 𝓡
   fills = proves fill-law fill-walk
 
--- ---- a struct, an input, an output and two numbers that are lent: the entry and the exit of a walk over them
-abbrev beside : List (Param 5)
-beside = input 1 tt ∷ output 2 tt ∷ count 3 tt ∷ count 4 tt ∷ []
+-- ---- a struct and an input that are lent, and more behind them: the entry and the exit of a walk over them
+abbrev step-ps : {n : ℕ} → Held → List (Param (suc (suc n))) → List (Param (suc (suc n)))
+step-ps T more = stored 0 tt T ∷ input 1 tt ∷ more
 
-abbrev step-ps : Held → List (Param 5)
-step-ps T = stored 0 tt T ∷ beside
-
--- the tokens of all but the struct; with what says the last values zs, k and m
-abbrev step-tokens : {M : Type 1} (𝓤 : URA M) → Lfts 4 → Shares 4 → Item 𝓤
-step-tokens 𝓤 κs qs = ‵ (flft (κs .0) (qs .0)) ⊛ ‵ (flft (κs .1 .0) (qs .1 .0)) ⊛ ‵ (flft (κs .1 .1 .0) (qs .1 .1 .0)) ⊛ ‵ (flft (κs .1 .1 .1 .0) (qs .1 .1 .1 .0)) ⊛ ‵ ftrue
-
-abbrev step-ends : {M : Type 1} (𝓤 : URA M) → Lfts 4 → Shares 4 → RefT (List ℕ) → RefT ℕ → RefT ℕ → List ℕ → ℕ → ℕ → Item 𝓤
-step-ends 𝓤 κs qs u t z zs k m = step-tokens 𝓤 κs qs ⊛ ‵ (fsep (finally u8 (u .name) zs) (fsep (fres (t .name) (u64 .coded .code k)) (fsep (fres (z .name) (u64 .coded .code m)) ftrue)))
-
-module _ {M : Type 1} {𝓤 : URA M} {H : Heap 𝓤} {A : Atoms 𝓤} {K : Type 0} {W : Given 𝓤 H A} (t : K) (T N : Held) (Φ : Fact (ended 5 (slots (step-ps T)) (N .row))) (κs : Lfts 5) (qs : Shares 5) (a : Args (ended 5 (slots (step-ps T)) (N .row) .signature) κs) where
+module _ {M : Type 1} {𝓤 : URA M} {H : Heap 𝓤} {A : Atoms 𝓤} {K : Type 0} {W : Given 𝓤 H A} (t : K) {n : ℕ} (T N : Held) (more : List (Param (suc (suc n)))) (Φ : Fact (ended _ (slots (step-ps T more)) (N .row))) (κs : Lfts (suc (suc n))) (qs : Shares (suc (suc n))) (a : Args (ended _ (slots (step-ps T more)) (N .row) .signature) κs) where
   -- [obs; the borrow; c's token; what the others own; their tokens; what i owns]
   step-lent : {G : Goal 𝓤 H}
-      → Step K W (Lent 𝓤 T (κs .0) (qs .0) (a .0) (a .0 .now) (‵ (owns (typesAt (slots beside) κs) (a .1) (lent 𝓤 H A (step-ps T) (N .row) Φ κs qs a .4 .1)) ∷ step-tokens 𝓤 (κs .1) (qs .1) ∷ ‵ (Input (κs .1 .0) (a .1 .0)) ∷ [])) G
-      ((‵ (flft (κs .0) (qs .0)) ⊛ step-tokens 𝓤 (κs .1) (qs .1)) ∷ ‵ (owns (typesAt (slots (step-ps T)) κs) a (lent 𝓤 H A (step-ps T) (N .row) Φ κs qs a .4)) ∷ []) G
+      → Step K W (Lent 𝓤 T (κs .0) (qs .0) (a .0) (a .0 .now) (‵ (owns (typesAt (slots (input 1 tt ∷ more)) κs) (a .1) (lent 𝓤 H A (step-ps T more) (N .row) Φ κs qs a .4 .1)) ∷ raw (toks 𝓤 A (suc n) (κs .1) (qs .1)) ∷ ‵ (Input (κs .1 .0) (a .1 .0)) ∷ [])) G
+      ((‵ (flft (κs .0) (qs .0)) ⊛ raw (toks 𝓤 A (suc n) (κs .1) (qs .1))) ∷ ‵ (owns (typesAt (slots (step-ps T more)) κs) a (lent 𝓤 H A (step-ps T more) (N .row) Φ κs qs a .4)) ∷ []) G
   step-lent =
       step (λ s. split t $ move t (2 ∷ []) $ fsplit t $ fsplit3 t $ drop t $ move t (2 ∷ []) $ fsplit t $
       use1 W (‵ (Input (κs .1 .0) (a .1 .0)) ⊛ ‵ (Input (κs .1 .0) (a .1 .0))) (shr-slice-copy 𝓤 H A W (named 1) (κs .1 .0) u8 .twice (a .1 .0) (span (a .1 .0) ∷ [])) $ split t $ move t (0 ∷ 2 ∷ []) $ fjoin t $ keep t (2 ∷ 3 ∷ 4 ∷ 0 ∷ 5 ∷ 1 ∷ []) $ s)
 
-  step-back : (x : T .row .Denot) (r : N .row .Denot) (zs : List ℕ) (k m : ℕ) → length zs ≡ length (a .1 .1 .0 .now)
-      → Φ κs a r (atExit (ended 5 (slots (step-ps T)) (N .row)) κs a (x, (tt, (zs, (k, (m, tt)))))) → Is (N .row) r (N .val r ∷ [])
-      → Seq K W (Lent 𝓤 T (κs .0) (qs .0) (a .0) x (step-ends 𝓤 (κs .1) (qs .1) (a .1 .1 .0) (a .1 .1 .1 .0) (a .1 .1 .1 .1 .0) zs k m ∷ ‵ (Input (κs .1 .0) (a .1 .0)) ∷ [])) (prop (Returns 𝓤 H A (step-ps T) (N .row) Φ κs qs a (N .val r)))
-  step-back x r zs k m len φ is =
-      returned t (step-ps T) (N .row) Φ κs qs a (N .val r) r (x, (tt, (zs, (k, (m, tt))))) (tt, (tt, (len, (tt, (tt, tt))))) φ $ has-back t T (a .0) x $ move t (2 ∷ []) $ split t $
+  -- [obs; the borrow; c's token; the others' tokens, and what says the last values of those behind the input; what i owns]
+  step-back : (x : T .row .Denot) (r : N .row .Denot) (ws : Fins κs (slots more) (all yes (slots more)) (a .1 .1)) → fitsOf κs (slots more) (all yes (slots more)) (stays more) (a .1 .1) ws
+      → Φ κs a r (atExit (ended _ (slots (step-ps T more)) (N .row)) κs a (x, (tt, ws))) → Is (N .row) r (N .val r ∷ [])
+      → Seq K W (Lent 𝓤 T (κs .0) (qs .0) (a .0) x ((raw (toks 𝓤 A (suc n) (κs .1) (qs .1)) ⊛ ‵ (hasOf κs (slots more) (all yes (slots more)) (stays more) (a .1 .1) ws (lent 𝓤 H A (step-ps T more) (N .row) Φ κs qs a .4 .1 .1))) ∷ ‵ (Input (κs .1 .0) (a .1 .0)) ∷ [])) (prop (Returns 𝓤 H A (step-ps T more) (N .row) Φ κs qs a (N .val r)))
+  step-back x r ws fits φ is =
+      returned t (step-ps T more) (N .row) Φ κs qs a (N .val r) r (x, (tt, ws)) (tt, (tt, fits)) φ $ has-back t T (a .0) x $ move t (2 ∷ []) $ split t $
       -- [the tokens; the last values; what c owns; c's token; what i owns]
       move t (3 ∷ 0 ∷ []) $ join t $ frame t $ move t (2 ∷ 0 ∷ []) $ fjoin t $ move t (1 ∷ 0 ∷ []) $ fjoin t $ frame t $ held t N r _ is $ done t
 
@@ -633,12 +624,16 @@ module _ (c : Call) where
   abbrev step-f-says : Fact step-f
   step-f-says κs a r e = Said (a .0) (now (a .1 .0)) (now (a .1 .1 .0)) (now (a .1 .1 .1 .0)) (now (a .1 .1 .1 .1 .0)) r (now (e .1 .1 .0)) (now (e .1 .1 .1 .0)) (now (e .1 .1 .1 .1 .0))
 
-  abbrev step-says : Fact (ended 5 (slots (step-ps T)) (N .row))
+  -- the output and the numbers, which are lent on
+  abbrev lent-on : List (Param 5)
+  lent-on = output 2 tt ∷ count 3 tt ∷ count 4 tt ∷ []
+
+  abbrev step-says : Fact (ended 5 (slots (step-ps T lent-on)) (N .row))
   step-says κs a r e = Left (now (a .0)) (now (a .1 .0)) (now (a .1 .1 .0)) (now (a .1 .1 .1 .0)) (now (a .1 .1 .1 .1 .0)) (now (e .0)) r (now (e .1 .1 .0)) (now (e .1 .1 .1 .0)) (now (e .1 .1 .1 .1 .0))
 
   abbrev pub stepping : Name → Fn
   stepping f =
-      code-of 5 (step-ps T) (N .ty) (parted-ty S ∷ T .ty ∷ tyRef erased mut (tyInt w8) ∷ slice erased mut ∷ tyRef erased mut (tyInt w64) ∷ tyRef erased mut (tyInt w64) ∷ [])
+      code-of 5 (step-ps T lent-on) (N .ty) (parted-ty S ∷ T .ty ∷ tyRef erased mut (tyInt w8) ∷ slice erased mut ∷ tyRef erased mut (tyInt w64) ∷ tyRef erased mut (tyInt w64) ∷ [])
       (seq (assign (place 7 []) (rvOpd (copy (place 1 (deref (T .ty) ∷ [])))))
       (seq (assign (place 8 []) (addrOf (place 3 (field 0 ∷ deref (tyInt w8) ∷ []))))
       (seq (assign (place 9 []) (aggregate (copy (place 8 []) ∷ copy (place 3 (field 1 ∷ [])) ∷ [])))
@@ -648,12 +643,12 @@ module _ (c : Call) where
       (seq (assign (place 1 (deref (T .ty) ∷ [])) (rvOpd (copy (place 6 (field 0 ∷ []))))) (seq (assign (place 0 []) (rvOpd (copy (place 6 (field 1 ∷ []))))) return))))))))
 
   abbrev step-law : Law
-  step-law = record { f = step-f; f-says = step-f-says; n = 5; ps = step-ps T; R = N .row; it-says = step-says; code = stepping }
+  step-law = record { f = step-f; f-says = step-f-says; n = 5; ps = step-ps T lent-on; R = N .row; it-says = step-says; code = stepping }
 
   step-walk : Walks step-law
   step-walk M 𝓤 H A W C Λ fm f known κs qs a are =
-      qed W ((‵ (flft (κs .0) (qs .0)) ⊛ step-tokens 𝓤 (κs .1) (qs .1)) ∷ ‵ (owns (typesAt (slots (step-ps T)) κs) a (lent 𝓤 H A (step-ps T) (N .row) step-says κs qs a .4)) ∷ []) ∵
-      step-lent ! T N step-says κs qs a $ enter ! C Λ (stepping f) (at (a .0) ∷ span (a .1 .0) ∷ span (a .1 .1 .0) ∷ at (a .1 .1 .1 .0) ∷ at (a .1 .1 .1 .1 .0) ∷ []) _ $
+      qed W ((‵ (flft (κs .0) (qs .0)) ⊛ raw (toks 𝓤 A 4 (κs .1) (qs .1))) ∷ ‵ (owns (typesAt (slots (step-ps T lent-on)) κs) a (lent 𝓤 H A (step-ps T lent-on) (N .row) step-says κs qs a .4)) ∷ []) ∵
+      step-lent ! T N lent-on step-says κs qs a $ enter ! C Λ (stepping f) (at (a .0) ∷ span (a .1 .0) ∷ span (a .1 .1 .0) ∷ at (a .1 .1 .1 .0) ∷ at (a .1 .1 .1 .1 .0) ∷ []) _ $
       alloc1 ! (λ l₀. alloc1 ! (λ l₁. alloc1 ! (λ l₂. alloc1 ! (λ l₃. alloc1 ! (λ l₄. alloc1 ! (λ l₅. alloc1 ! (λ l₆. alloc1 ! (λ l₇. alloc1 ! (λ l₈. alloc1 ! (λ l₉. alloc1 ! (λ l₁₀. alloc1 ! (λ l₁₁. alloc0 ! $ params1 ! $
       pass1 ! (init ! 20 refl (tt, tt)) $ pass1 ! (init ! 18 refl (shr-slice-lawful 𝓤 H A W (named 1) (κs .1 .0) u8 .typed (a .1 .0) (span (a .1 .0) ∷ []) (are .1 .0) .0)) $ pass1 ! (init ! 16 refl (room (a .1 .1 .0) (are .1 .1 .0 .0 .1))) $
       pass1 ! (init ! 14 refl (tt, tt)) $ pass1 ! (init ! 12 refl (tt, tt)) $ pass0 ! $
@@ -665,7 +660,7 @@ module _ (c : Call) where
       assigns ! (addr ! (from ! (hop ! (look ! 17 refl) (stop !)))) (from ! (stop !)) (init ! 5 refl (tt, tt)) $ assigns ! (addr ! (from ! (hop ! (look ! 15 refl) (stop !)))) (from ! (stop !)) (init ! 3 refl (tt, tt)) $
       -- what `f` asks is joined
       move ! (27 ∷ []) $ held ! T (a .0 .now) _ is $ fjoin ! $ move ! (28 ∷ 0 ∷ []) $ join ! $
-      asks ! fm step-f step-f-says known (κs .1, qs .1, tt, (a .0 .now, a .1), (T .val (a .0 .now) ∷ [], lent 𝓤 H A (step-ps T) (N .row) step-says κs qs a .4 .1)) (id⊢ 𝓤 _) (arg ! 12 refl (arg ! 22 refl (arg ! 8 refl (arg ! 6 refl (arg ! 4 refl (no-more !)))))) (λ w r ws e is.
+      asks ! fm step-f step-f-says known (κs .1, qs .1, tt, (a .0 .now, a .1), (T .val (a .0 .now) ∷ [], lent 𝓤 H A (step-ps T lent-on) (N .row) step-says κs qs a .4 .1)) (id⊢ 𝓤 _) (arg ! 12 refl (arg ! 22 refl (arg ! 8 refl (arg ! 6 refl (arg ! 4 refl (no-more !)))))) (λ w r ws e is.
       -- [what `f` hands back; obs; the borrow; c's token; _11; …; room for _0; …; what i owns]
       land ! (from ! (stop !)) (init ! 14 refl (parted-typed 𝓤 H A W S r w is)) $ rewrite ! 14 (λ (z : Val). ‵ (fat fullShare (parted-ty S) l₆ 0 z)) (ap only (S .spells r _ is)) refl $
       move ! (1 ∷ 2 ∷ 3 ∷ []) $ puts ! T (a .0) (S .state r) (S .are r _ is .0) (of-opd ! (load ! (from ! (fld ! refl (stop !))) (look-in ! 15 (sub ! 0 refl (whole !))))) (from ! (hop ! (look ! 25 refl) (stop !))) $
@@ -673,9 +668,9 @@ module _ (c : Call) where
       returns ! (look ! 26 refl) $ leaves ! 26 refl refl $ leaves ! 24 refl refl $ leaves ! 22 refl refl $ leaves ! 20 refl refl $ leaves ! 18 refl refl $ leaves ! 16 refl refl $ leaves ! 14 refl refl $ leaves ! 12 refl refl $
       leaves ! 10 refl refl $ leaves ! 8 refl refl $ leaves ! 6 refl refl $ leaves ! 4 refl refl $ free0 ! $
       -- [obs; the borrow; c's token; what `f` hands back; what i owns]
-      move ! (3 ∷ []) $ split ! $ use1 W (step-tokens 𝓤 (κs .1) (qs .1)) (id⊢ 𝓤 _) $ move ! (1 ∷ []) $ fsplit ! $ drop ! $ fsplit ! $ drop ! $ fsplit ! $ fsplit ! $ move ! (1 ∷ []) $ feqL ! (λ l.
+      move ! (3 ∷ []) $ split ! $ move ! (1 ∷ []) $ fsplit ! $ drop ! $ fsplit ! $ drop ! $ fsplit ! $ fsplit ! $ move ! (1 ∷ []) $ feqL ! (λ l.
       fjoin ! $ move ! (1 ∷ 0 ∷ []) $ join ! $ move ! (1 ∷ 2 ∷ 3 ∷ []) $
-      step-back ! T N step-says κs qs a (S .state r) (S .answer r) (ws .1 .1 .0) (ws .1 .1 .1 .0) (ws .1 .1 .1 .1 .0) l
+      step-back ! T N lent-on step-says κs qs a (S .state r) (S .answer r) (ws .1 .1) (l, (tt, (tt, tt)))
       (follows (a .0 .now) (a .1 .0 .now) (a .1 .1 .0 .now) (a .1 .1 .1 .0 .now) (a .1 .1 .1 .1 .0 .now) r (ws .1 .1 .0) (ws .1 .1 .1 .0) (ws .1 .1 .1 .1 .0) e) (S .are r _ is .1 .0))))))))))))))))
 
   pub steps : {M : Type 1} (𝓤 : URA M) (H : Heap 𝓤) (𝓜 : Model 𝓤 H) (𝓖 : GhostRules 𝓤 H) (𝓡 : Running 𝓤 H 𝓜) → Proves step-law 𝓤 H 𝓜 𝓖 𝓡

@@ -1,7 +1,7 @@
 -- A call over a struct that the caller lends, which hands the struct's arrays on in place and copies none: one walk of MIR, for every struct of two plain structs and two arrays of n bytes.
---     lends       `let s = f(c.former, c.latter, &mut c.low, &mut c.high, input, out, k, m); c.latter = s.latter; if s.replaces { c.former = s.former; } s.answer`
+--     lends       `let s = f(c.former, c.latter, &mut c.low, &mut c.high, input, out, k, m, w); c.latter = s.latter; if s.replaces { c.former = s.former; } s.answer`
 -- The crate says what its types are (`struct-held`, `Lendable`, `Returned`), what `f` ensures and what follows of it, and that its function is the one walked here (`refl`).
--- The walk opens the borrow of the struct and copies the two plain structs out. It takes the struct's cell apart and lends the arrays' cells to `f`, each for a lifetime that is made for the call (`Arrays`), beside the slices and the two numbers, which go on for good. The arrays come back, the cell is whole again, the latter struct and, where `f` says so, the former are stored in it, and the borrow is closed.
+-- The walk opens the borrow of the struct and copies the two plain structs out. It takes the struct's cell apart and lends the arrays' cells to `f`, each for a lifetime that is made for the call (`Arrays`), beside the slices and the three numbers, which go on for good. The arrays come back, the cell is whole again, the latter struct and, where `f` says so, the former are stored in it, and the borrow is closed.
 -- It knows of `f` only that it meets its contract, and never looks into a plain struct: fields may change, and nothing here.
 use mathlib.Core.Path.{_≡_, refl, sym, ap, subst}
 use mathlib.Core.Bool.{Bool, true, false, not, cond as either}
@@ -20,6 +20,7 @@ use prog.Memory.{size, align, up, fieldOf}
 use prog.Model.{Model, fieldsAt}
 use prog.Wp.{Heap, Env, Calls, Loops, Wp, next, afterSeq}
 use ghost.Atoms.{Atoms}
+use contract.Lifetimes.{toks}
 use contract.Running.{Running, GhostRules}
 use types.Kit.{Given, Item, Post, anyQ, post, prop, runs, Step, step, mean, ‵, raw, _⊛_, _$_, _∵_, !, qed, move, keep, drop, use1, use2, use3, split, split3, join, group, rewrite, fsplit, fsplit3, fjoin, feqL, done}
 use types.Run.{Opd, look, init, stop, hop, fld, from, load, addr, of-opd, and-then, no-more, assigns, assigns-last, land, first, branches, skips, returns, enter, alloc1, alloc0, params1, pass1, pass0, free0}
@@ -36,7 +37,7 @@ use denote.Steps.{only, nothing}
 use denote.Struct.Struct.{as-fields}
 use denote.Triple.Clauses.{Ended}
 use Rattle.packet.proofs.Cases.{cond-cases}
-use Rattle.packet.proofs.Lending.{Held, number, slice, at, span, input, output, count, slots, ended, Fact, lent, Law, Walks, code-of, Proves, proves, typed, room, held, opens-held, closes-held, arg, asks, leaves, step-ps, step-tokens, step-ends, step-lent, step-back}
+use Rattle.packet.proofs.Lending.{Held, number, slice, at, span, Param, input, output, count, slots, ended, Fact, lent, Law, Walks, code-of, Proves, proves, typed, room, held, opens-held, closes-held, arg, asks, leaves, step-ps, step-lent, step-back}
 use Rattle.packet.proofs.Lending.Arrays.{Bytes, bytes-ty, each-of, bytes-val, at-bytes, bytes-of, of-bytes, lends-bytes, bytes-back}
 
 -- ---- a branch whose two ways meet, so that what is left runs once
@@ -109,7 +110,7 @@ pub record Returned (P R : Held) : Type 2 where
 abbrev pub returned-ty : {P R : Held} → Returned P R → Ty
 returned-ty {P} {R} S = tyStruct (S .name) (tcons (P .ty) (tcons (R .ty) (tcons tyBool (tcons (tyInt w32) tnil))))
 
--- `Said`: what `f` says of its parameters at entry, of its result, and of the arrays, the output and the two numbers at exit. `Left`: what the function says of the struct, the input and the output at entry, of the struct at exit, of its result, and of the output and the numbers at exit.
+-- `Said`: what `f` says of its parameters at entry, of its result, and of the arrays, the output and the three numbers at exit. `Left`: what the function says of the struct, the input and the output at entry, of the struct at exit, of its result, and of the output and the numbers at exit.
 pub record Lend : Type 2 where
   pub T : Held
   pub P : Held
@@ -117,27 +118,31 @@ pub record Lend : Type 2 where
   pub n : ℕ
   pub L : Lendable T P R n
   pub S : Returned P R
-  pub Said : P .row .Denot → R .row .Denot → List ℕ → List ℕ → List ℕ → List ℕ → S .row .Denot → List ℕ → List ℕ → List ℕ → ℕ → ℕ → Type 0
-  pub Left : T .row .Denot → List ℕ → List ℕ → T .row .Denot → ℕ → List ℕ → ℕ → ℕ → Type 0
-  pub follows : (h : T .row .Denot) (i u : List ℕ) (s : S .row .Denot) (ys zs out : List ℕ) (k m : ℕ) → Said (L .former h) (L .latter h) (L .low h) (L .high h) i u s ys zs out k m
-      → Left h i u (L .of (either (S .replaces s) (S .former s) (L .former h)) (S .latter s) ys zs) (S .answer s) out k m
+  pub Said : P .row .Denot → R .row .Denot → List ℕ → List ℕ → List ℕ → List ℕ → S .row .Denot → List ℕ → List ℕ → List ℕ → ℕ → ℕ → ℕ → Type 0
+  pub Left : T .row .Denot → List ℕ → List ℕ → T .row .Denot → ℕ → List ℕ → ℕ → ℕ → ℕ → Type 0
+  pub follows : (h : T .row .Denot) (i u : List ℕ) (s : S .row .Denot) (ys zs out : List ℕ) (k m w : ℕ) → Said (L .former h) (L .latter h) (L .low h) (L .high h) i u s ys zs out k m w
+      → Left h i u (L .of (either (S .replaces s) (S .former s) (L .former h)) (S .latter s) ys zs) (S .answer s) out k m w
 
 module _ (c : Lend) where
   open Lend c using (T, P, R, n, L, S, Said, Left, follows)
 
   abbrev lend-f : Ended
   lend-f =
-      ended 6
-      (plain (λ _. P .row) ∷ plain (λ _. R .row) ∷ mutRefTo (0 ∷ []) tt (arrayOf (plain (λ _. u8)) n) ∷ mutRefTo (1 ∷ []) tt (arrayOf (plain (λ _. u8)) n) ∷ slots (input 2 tt ∷ output 3 tt ∷ count 4 tt ∷ count 5 tt ∷ []))
+      ended 7
+      (plain (λ _. P .row) ∷ plain (λ _. R .row) ∷ mutRefTo (0 ∷ []) tt (arrayOf (plain (λ _. u8)) n) ∷ mutRefTo (1 ∷ []) tt (arrayOf (plain (λ _. u8)) n) ∷ slots (input 2 tt ∷ output 3 tt ∷ count 4 tt ∷ count 5 tt ∷ count 6 tt ∷ []))
       (S .row)
 
   abbrev lend-f-says : Fact lend-f
   lend-f-says κs a s e =
       Said (a .0) (a .1 .0) (now (a .1 .1 .0)) (now (a .1 .1 .1 .0)) (now (a .1 .1 .1 .1 .0)) (now (a .1 .1 .1 .1 .1 .0)) s
-      (now (e .1 .1 .0)) (now (e .1 .1 .1 .0)) (now (e .1 .1 .1 .1 .1 .0)) (now (e .1 .1 .1 .1 .1 .1 .0)) (now (e .1 .1 .1 .1 .1 .1 .1 .0))
+      (now (e .1 .1 .0)) (now (e .1 .1 .1 .0)) (now (e .1 .1 .1 .1 .1 .0)) (now (e .1 .1 .1 .1 .1 .1 .0)) (now (e .1 .1 .1 .1 .1 .1 .1 .0)) (now (e .1 .1 .1 .1 .1 .1 .1 .1 .0))
 
-  abbrev lend-says : Fact (ended 5 (slots (step-ps T)) u32)
-  lend-says κs a r e = Left (now (a .0)) (now (a .1 .0)) (now (a .1 .1 .0)) (now (e .0)) r (now (e .1 .1 .0)) (now (e .1 .1 .1 .0)) (now (e .1 .1 .1 .1 .0))
+  -- the output and the numbers, which are lent on
+  abbrev lent-on : List (Param 6)
+  lent-on = output 2 tt ∷ count 3 tt ∷ count 4 tt ∷ count 5 tt ∷ []
+
+  abbrev lend-says : Fact (ended 6 (slots (step-ps T lent-on)) u32)
+  lend-says κs a r e = Left (now (a .0)) (now (a .1 .0)) (now (a .1 .1 .0)) (now (e .0)) r (now (e .1 .1 .0)) (now (e .1 .1 .1 .0)) (now (e .1 .1 .1 .1 .0)) (now (e .1 .1 .1 .1 .1 .0))
 
   abbrev T-ty : Ty
   T-ty = tyStruct (L .name) (fields P R n)
@@ -147,22 +152,24 @@ module _ (c : Lend) where
 
   abbrev pub lending : Name → Fn
   lending f =
-      code-of 5 (step-ps T) (tyInt w32) (returned-ty S ∷ P .ty ∷ R .ty ∷ bytes-ref ∷ bytes-ref ∷ tyRef erased mut (tyInt w8) ∷ slice erased mut ∷ tyRef erased mut (tyInt w64) ∷ tyRef erased mut (tyInt w64) ∷ tyBool ∷ [])
-      (seq (assign (place 7 []) (rvOpd (copy (place 1 (deref T-ty ∷ field 0 ∷ [])))))
-      (seq (assign (place 8 []) (rvOpd (copy (place 1 (deref T-ty ∷ field 1 ∷ [])))))
-      (seq (assign (place 9 []) (addrOf (place 1 (deref T-ty ∷ field 2 ∷ []))))
-      (seq (assign (place 10 []) (addrOf (place 1 (deref T-ty ∷ field 3 ∷ []))))
-      (seq (assign (place 11 []) (addrOf (place 3 (field 0 ∷ deref (tyInt w8) ∷ []))))
-      (seq (assign (place 12 []) (aggregate (copy (place 11 []) ∷ copy (place 3 (field 1 ∷ [])) ∷ [])))
-      (seq (assign (place 13 []) (addrOf (place 4 (deref (tyInt w64) ∷ []))))
-      (seq (assign (place 14 []) (addrOf (place 5 (deref (tyInt w64) ∷ []))))
-      (seq (call f (copy (place 7 []) ∷ copy (place 8 []) ∷ copy (place 9 []) ∷ copy (place 10 []) ∷ copy (place 2 []) ∷ copy (place 12 []) ∷ copy (place 13 []) ∷ copy (place 14 []) ∷ []) (place 6 []))
-      (seq (assign (place 1 (deref T-ty ∷ field 1 ∷ [])) (rvOpd (copy (place 6 (field 1 ∷ [])))))
-      (seq (assign (place 15 []) (rvOpd (copy (place 6 (field 2 ∷ [])))))
-      (seq (cond (copy (place 15 [])) (assign (place 1 (deref T-ty ∷ field 0 ∷ [])) (rvOpd (copy (place 6 (field 0 ∷ []))))) skip) (seq (assign (place 0 []) (rvOpd (copy (place 6 (field 3 ∷ []))))) return)))))))))))))
+      code-of 6 (step-ps T lent-on) (tyInt w32)
+      (returned-ty S ∷ P .ty ∷ R .ty ∷ bytes-ref ∷ bytes-ref ∷ tyRef erased mut (tyInt w8) ∷ slice erased mut ∷ tyRef erased mut (tyInt w64) ∷ tyRef erased mut (tyInt w64) ∷ tyRef erased mut (tyInt w64) ∷ tyBool ∷ [])
+      (seq (assign (place 8 []) (rvOpd (copy (place 1 (deref T-ty ∷ field 0 ∷ [])))))
+      (seq (assign (place 9 []) (rvOpd (copy (place 1 (deref T-ty ∷ field 1 ∷ [])))))
+      (seq (assign (place 10 []) (addrOf (place 1 (deref T-ty ∷ field 2 ∷ []))))
+      (seq (assign (place 11 []) (addrOf (place 1 (deref T-ty ∷ field 3 ∷ []))))
+      (seq (assign (place 12 []) (addrOf (place 3 (field 0 ∷ deref (tyInt w8) ∷ []))))
+      (seq (assign (place 13 []) (aggregate (copy (place 12 []) ∷ copy (place 3 (field 1 ∷ [])) ∷ [])))
+      (seq (assign (place 14 []) (addrOf (place 4 (deref (tyInt w64) ∷ []))))
+      (seq (assign (place 15 []) (addrOf (place 5 (deref (tyInt w64) ∷ []))))
+      (seq (assign (place 16 []) (addrOf (place 6 (deref (tyInt w64) ∷ []))))
+      (seq (call f (copy (place 8 []) ∷ copy (place 9 []) ∷ copy (place 10 []) ∷ copy (place 11 []) ∷ copy (place 2 []) ∷ copy (place 13 []) ∷ copy (place 14 []) ∷ copy (place 15 []) ∷ copy (place 16 []) ∷ []) (place 7 []))
+      (seq (assign (place 1 (deref T-ty ∷ field 1 ∷ [])) (rvOpd (copy (place 7 (field 1 ∷ [])))))
+      (seq (assign (place 17 []) (rvOpd (copy (place 7 (field 2 ∷ [])))))
+      (seq (cond (copy (place 17 [])) (assign (place 1 (deref T-ty ∷ field 0 ∷ [])) (rvOpd (copy (place 7 (field 0 ∷ []))))) skip) (seq (assign (place 0 []) (rvOpd (copy (place 7 (field 3 ∷ []))))) return))))))))))))))
 
   abbrev lend-law : Law
-  lend-law = record { f = lend-f; f-says = lend-f-says; n = 5; ps = step-ps T; R = u32; it-says = lend-says; code = lending }
+  lend-law = record { f = lend-f; f-says = lend-f-says; n = 6; ps = step-ps T lent-on; R = u32; it-says = lend-says; code = lending }
 
   at-2 : fieldOf T-ty 2 ≡ just (bytes-ty n, at-low P R n)
   unfolding at-low
@@ -250,59 +257,58 @@ module _ (c : Lend) where
 
   lend-walk : Walks lend-law
   lend-walk M 𝓤 H A W C Λ fm f known κs qs a are =
-      qed W ((‵ (flft (κs .0) (qs .0)) ⊛ step-tokens 𝓤 (κs .1) (qs .1)) ∷ ‵ (owns (typesAt (slots (step-ps T)) κs) a (lent 𝓤 H A (step-ps T) u32 lend-says κs qs a .4)) ∷ []) ∵
-      step-lent ! T (number w32) lend-says κs qs a $ enter ! C Λ (lending f) (at (a .0) ∷ span (a .1 .0) ∷ span (a .1 .1 .0) ∷ at (a .1 .1 .1 .0) ∷ at (a .1 .1 .1 .1 .0) ∷ []) _ $
-      alloc1 ! (λ l₀. alloc1 ! (λ l₁. alloc1 ! (λ l₂. alloc1 ! (λ l₃. alloc1 ! (λ l₄. alloc1 ! (λ l₅. alloc1 ! (λ l₆. alloc1 ! (λ l₇. alloc1 ! (λ l₈. alloc1 ! (λ l₉. alloc1 ! (λ l₁₀. alloc1 ! (λ l₁₁. alloc1 ! (λ l₁₂. alloc1 ! (λ l₁₃. alloc1 ! (λ l₁₄. alloc1 ! (λ l₁₅. alloc0 ! $ params1 ! $
-      pass1 ! (init ! 28 refl (tt, tt)) $ pass1 ! (init ! 26 refl (shr-slice-lawful 𝓤 H A W (named 1) (κs .1 .0) u8 .typed (a .1 .0) (span (a .1 .0) ∷ []) (are .1 .0) .0)) $ pass1 ! (init ! 24 refl (room (a .1 .1 .0) (are .1 .1 .0 .0 .1))) $
-      pass1 ! (init ! 22 refl (tt, tt)) $ pass1 ! (init ! 20 refl (tt, tt)) $ pass0 ! $
+      qed W ((‵ (flft (κs .0) (qs .0)) ⊛ raw (toks 𝓤 A 5 (κs .1) (qs .1))) ∷ ‵ (owns (typesAt (slots (step-ps T lent-on)) κs) a (lent 𝓤 H A (step-ps T lent-on) u32 lend-says κs qs a .4)) ∷ []) ∵
+      step-lent ! T (number w32) lent-on lend-says κs qs a $ enter ! C Λ (lending f) (at (a .0) ∷ span (a .1 .0) ∷ span (a .1 .1 .0) ∷ at (a .1 .1 .1 .0) ∷ at (a .1 .1 .1 .1 .0) ∷ at (a .1 .1 .1 .1 .1 .0) ∷ []) _ $
+      alloc1 ! (λ l₀. alloc1 ! (λ l₁. alloc1 ! (λ l₂. alloc1 ! (λ l₃. alloc1 ! (λ l₄. alloc1 ! (λ l₅. alloc1 ! (λ l₆. alloc1 ! (λ l₇. alloc1 ! (λ l₈. alloc1 ! (λ l₉. alloc1 ! (λ l₁₀. alloc1 ! (λ l₁₁. alloc1 ! (λ l₁₂. alloc1 ! (λ l₁₃. alloc1 ! (λ l₁₄. alloc1 ! (λ l₁₅. alloc1 ! (λ l₁₆. alloc1 ! (λ l₁₇. alloc0 ! $ params1 ! $
+      pass1 ! (init ! 32 refl (tt, tt)) $ pass1 ! (init ! 30 refl (shr-slice-lawful 𝓤 H A W (named 1) (κs .1 .0) u8 .typed (a .1 .0) (span (a .1 .0) ∷ []) (are .1 .0) .0)) $ pass1 ! (init ! 28 refl (room (a .1 .1 .0) (are .1 .1 .0 .0 .1))) $
+      pass1 ! (init ! 26 refl (tt, tt)) $ pass1 ! (init ! 24 refl (tt, tt)) $ pass1 ! (init ! 22 refl (tt, tt)) $ pass0 ! $
       -- the borrow of the struct is opened
-      move ! (32 ∷ 33 ∷ 34 ∷ []) $ opens-held ! tt T (a .0) (λ is.
+      move ! (36 ∷ 37 ∷ 38 ∷ []) $ opens-held ! tt T (a .0) (λ is.
       rewrite ! 0 (λ (τ : Ty). ‵ (fat fullShare (rawTy τ) (a .0 .ptr .0) (a .0 .ptr .1) (T .val (a .0 .now)))) (L .lies) refl $ rewrite ! 0 (λ (v : Val). ‵ (fat fullShare (rawTy T-ty) (a .0 .ptr .0) (a .0 .ptr .1) v)) (ap only (L .spells (a .0 .now) _ is)) refl $
       use1 W (Cell 𝓤 H A W (a .0) (parts-with 𝓤 H A W (a .0) (L .low (a .0 .now)) (L .high (a .0 .now)))) (W .laws .raw-at fullShare T-ty (a .0 .ptr .0) (a .0 .ptr .1) _) $
-      -- [the struct's cell; the open borrow; obs; auth; _15 4; …; _14 6; …; _6 22; …; _1 32; …; room for _0 34; …; what the others own; their tokens; what i owns]
-      assigns ! (of-opd ! (load ! (from ! (hop ! (look ! 32 refl) (fld ! refl (stop !)))) (look-in ! 0 (sub ! 0 refl (whole !))))) (from ! (stop !)) (init ! 20 refl (typed 𝓤 H A W P _ _ (L .are (a .0 .now) _ is .0))) $
-      assigns ! (of-opd ! (load ! (from ! (hop ! (look ! 32 refl) (fld ! refl (stop !)))) (look-in ! 0 (sub ! 1 refl (whole !))))) (from ! (stop !)) (init ! 18 refl (typed 𝓤 H A W R _ _ (L .are (a .0 .now) _ is .1 .0))) $
-      assigns ! (addr ! (from ! (hop ! (look ! 32 refl) (fld ! at-2 (stop !))))) (from ! (stop !)) (init ! 16 refl (tt, tt)) $
-      assigns ! (addr ! (from ! (hop ! (look ! 32 refl) (fld ! at-3 (stop !))))) (from ! (stop !)) (init ! 14 refl (tt, tt)) $
-      assigns ! (addr ! (from ! (fld ! refl (hop ! (look-in ! 28 (sub ! 0 refl (whole !))) (stop !))))) (from ! (stop !)) (init ! 12 refl (tt, tt)) $
-      assigns ! (agg ! (arg ! 12 refl (and-then ! (load ! (from ! (fld ! refl (stop !))) (look-in ! 28 (sub ! 1 refl (whole !)))) (no-more !)))) (from ! (stop !)) (init ! 10 refl (room (a .1 .1 .0) (are .1 .1 .0 .0 .1))) $
-      assigns ! (addr ! (from ! (hop ! (look ! 26 refl) (stop !)))) (from ! (stop !)) (init ! 8 refl (tt, tt)) $ assigns ! (addr ! (from ! (hop ! (look ! 24 refl) (stop !)))) (from ! (stop !)) (init ! 6 refl (tt, tt)) $
+      -- [the struct's cell; the open borrow; obs; auth; _17 4; …; _16 6; …; _7 24; …; _1 36; …; room for _0 38; …; what the others own; their tokens; what i owns]
+      assigns ! (of-opd ! (load ! (from ! (hop ! (look ! 36 refl) (fld ! refl (stop !)))) (look-in ! 0 (sub ! 0 refl (whole !))))) (from ! (stop !)) (init ! 22 refl (typed 𝓤 H A W P _ _ (L .are (a .0 .now) _ is .0))) $
+      assigns ! (of-opd ! (load ! (from ! (hop ! (look ! 36 refl) (fld ! refl (stop !)))) (look-in ! 0 (sub ! 1 refl (whole !))))) (from ! (stop !)) (init ! 20 refl (typed 𝓤 H A W R _ _ (L .are (a .0 .now) _ is .1 .0))) $
+      assigns ! (addr ! (from ! (hop ! (look ! 36 refl) (fld ! at-2 (stop !))))) (from ! (stop !)) (init ! 18 refl (tt, tt)) $
+      assigns ! (addr ! (from ! (hop ! (look ! 36 refl) (fld ! at-3 (stop !))))) (from ! (stop !)) (init ! 16 refl (tt, tt)) $
+      assigns ! (addr ! (from ! (fld ! refl (hop ! (look-in ! 32 (sub ! 0 refl (whole !))) (stop !))))) (from ! (stop !)) (init ! 14 refl (tt, tt)) $
+      assigns ! (agg ! (arg ! 14 refl (and-then ! (load ! (from ! (fld ! refl (stop !))) (look-in ! 32 (sub ! 1 refl (whole !)))) (no-more !)))) (from ! (stop !)) (init ! 12 refl (room (a .1 .1 .0) (are .1 .1 .0 .0 .1))) $
+      assigns ! (addr ! (from ! (hop ! (look ! 30 refl) (stop !)))) (from ! (stop !)) (init ! 10 refl (tt, tt)) $ assigns ! (addr ! (from ! (hop ! (look ! 28 refl) (stop !)))) (from ! (stop !)) (init ! 8 refl (tt, tt)) $ assigns ! (addr ! (from ! (hop ! (look ! 26 refl) (stop !)))) (from ! (stop !)) (init ! 6 refl (tt, tt)) $
       -- the arrays' cells are taken out and lent
       use1 W (Apart 𝓤 H A W (a .0) (L .low (a .0 .now)) (L .high (a .0 .now))) (apart 𝓤 H A W (a .0) (L .low (a .0 .now)) (L .high (a .0 .now))) $ split3 ! $ lft-new ! tt (λ ν. lft-new ! tt (λ μ. move ! (2 ∷ []) $
       lends-bytes ! tt n (a .0 .ptr .0) (p-low (a .0)) (named 0) (ν ∷ []) (L .low (a .0 .now)) (bytes-of n (L .low (a .0 .now)) (L .are (a .0 .now) _ is .1 .1 .0)) (λ δ. move ! (4 ∷ []) $
       lends-bytes ! tt n (a .0 .ptr .0) (p-high (a .0)) (named 1) (μ ∷ []) (L .high (a .0 .now)) (bytes-of n (L .high (a .0 .now)) (L .are (a .0 .now) _ is .1 .1 .1 .0)) (λ ε.
-      -- [high's reference; its lender's part; low's reference; its lender's part; μ's token; ν's token; the rest of the struct; the open borrow; obs; auth; _15 10; …]: what `f` asks is joined
-      move ! (0 ∷ 42 ∷ []) $ fjoin ! $ move ! (2 ∷ 0 ∷ []) $ fjoin ! $ held ! R _ _ (L .are (a .0 .now) _ is .1 .0) $ fjoin ! $ held ! P _ _ (L .are (a .0 .now) _ is .0) $ fjoin ! $ move ! (4 ∷ 3 ∷ 41 ∷ []) $ group ! 3 $ join ! $
+      -- [high's reference; its lender's part; low's reference; its lender's part; μ's token; ν's token; the rest of the struct; the open borrow; obs; auth; _17 10; …]: what `f` asks is joined
+      move ! (0 ∷ 46 ∷ []) $ fjoin ! $ move ! (2 ∷ 0 ∷ []) $ fjoin ! $ held ! R _ _ (L .are (a .0 .now) _ is .1 .0) $ fjoin ! $ held ! P _ _ (L .are (a .0 .now) _ is .0) $ fjoin ! $ move ! (4 ∷ 3 ∷ 45 ∷ []) $ group ! 3 $ join ! $
       asks ! fm lend-f lend-f-says known
-      ((ν ∷ [], (μ ∷ [], κs .1)), (fullShare, (fullShare, qs .1)), tt, (L .former (a .0 .now), (L .latter (a .0 .now), (at-bytes (a .0 .ptr .0) (p-low (a .0)) δ (L .low (a .0 .now)), (at-bytes (a .0 .ptr .0) (p-high (a .0)) ε (L .high (a .0 .now)), a .1)))), (P .val (L .former (a .0 .now)) ∷ [], (R .val (L .latter (a .0 .now)) ∷ [], (vptr (a .0 .ptr .0) (p-low (a .0)) ∷ [], (vptr (a .0 .ptr .0) (p-high (a .0)) ∷ [], lent 𝓤 H A (step-ps T) u32 lend-says κs qs a .4 .1)))))
-      (id⊢ 𝓤 _) (arg ! 23 refl (arg ! 21 refl (arg ! 19 refl (arg ! 17 refl (arg ! 33 refl (arg ! 13 refl (arg ! 11 refl (arg ! 9 refl (no-more !))))))))) (λ w s ws e s-is.
-      -- [what `f` hands back; high's lender's part; low's; the rest of the struct; the open borrow; obs; auth; _15 7; …; _6 25; …; room for _0 37; …; what i owns]
-      land ! (from ! (stop !)) (init ! 25 refl (returned-typed 𝓤 H A W s w s-is)) $ rewrite ! 25 (λ (v : Val). ‵ (fat fullShare (returned-ty S) l₆ 0 v)) (ap only (S .spells s _ s-is)) refl $
-      split ! $ use1 W (‵ (flft (ν ∷ []) fullShare) ⊛ ‵ (flft (μ ∷ []) fullShare) ⊛ step-tokens 𝓤 (κs .1) (qs .1)) (id⊢ 𝓤 _) $ move ! (1 ∷ []) $
+      ((ν ∷ [], (μ ∷ [], κs .1)), (fullShare, (fullShare, qs .1)), tt, (L .former (a .0 .now), (L .latter (a .0 .now), (at-bytes (a .0 .ptr .0) (p-low (a .0)) δ (L .low (a .0 .now)), (at-bytes (a .0 .ptr .0) (p-high (a .0)) ε (L .high (a .0 .now)), a .1)))), (P .val (L .former (a .0 .now)) ∷ [], (R .val (L .latter (a .0 .now)) ∷ [], (vptr (a .0 .ptr .0) (p-low (a .0)) ∷ [], (vptr (a .0 .ptr .0) (p-high (a .0)) ∷ [], lent 𝓤 H A (step-ps T lent-on) u32 lend-says κs qs a .4 .1)))))
+      (id⊢ 𝓤 _) (arg ! 25 refl (arg ! 23 refl (arg ! 21 refl (arg ! 19 refl (arg ! 37 refl (arg ! 15 refl (arg ! 13 refl (arg ! 11 refl (arg ! 9 refl (no-more !)))))))))) (λ w s ws e s-is.
+      -- [what `f` hands back; high's lender's part; low's; the rest of the struct; the open borrow; obs; auth; _17 7; …; _7 27; …; room for _0 41; …; what i owns]
+      land ! (from ! (stop !)) (init ! 27 refl (returned-typed 𝓤 H A W s w s-is)) $ rewrite ! 27 (λ (v : Val). ‵ (fat fullShare (returned-ty S) l₇ 0 v)) (ap only (S .spells s _ s-is)) refl $
+      split ! $ use1 W (‵ (flft (ν ∷ []) fullShare) ⊛ ‵ (flft (μ ∷ []) fullShare) ⊛ raw (toks 𝓤 A 5 (κs .1) (qs .1))) (id⊢ 𝓤 _) $ move ! (1 ∷ []) $
       fsplit ! $ drop ! $ fsplit ! $ drop ! $ fsplit3 ! $ move ! (2 ∷ []) $ fsplit ! $ drop ! $ fsplit ! $ fsplit ! $ move ! (1 ∷ []) $ feqL ! (λ len.
-      -- [out's last list; the two numbers'; low's; high's; the tokens; high's lender's part; low's; the rest of the struct; …]: the lifetimes are ended, and the arrays come back
-      fjoin ! $ move ! (3 ∷ []) $ split3 ! $ move ! (2 ∷ 3 ∷ []) $ join ! $ use1 W (step-ends 𝓤 (κs .1) (qs .1) (a .1 .1 .0) (a .1 .1 .1 .0) (a .1 .1 .1 .1 .0) (ws .1 .1 .1 .1 .1 .0) (ws .1 .1 .1 .1 .1 .1 .0) (ws .1 .1 .1 .1 .1 .1 .1 .0)) (id⊢ 𝓤 _) $
-      move ! (1 ∷ []) $ lft-end ! tt $ move ! (0 ∷ 6 ∷ 3 ∷ []) $ bytes-back ! tt n (a .0 .ptr .0) (p-low (a .0)) (ws .1 .1 .0) (λ y-is.
+      -- [out's last list; the numbers'; low's; high's; the tokens; high's lender's part; low's; the rest of the struct; …]: the lifetimes are ended, and the arrays come back
+      fjoin ! $ move ! (3 ∷ []) $ split3 ! $ move ! (2 ∷ 3 ∷ []) $ join ! $ move ! (1 ∷ []) $ lft-end ! tt $ move ! (0 ∷ 6 ∷ 3 ∷ []) $ bytes-back ! tt n (a .0 .ptr .0) (p-low (a .0)) (ws .1 .1 .0) (λ y-is.
       -- [low; the tokens and the last values; μ's token; high's; its lender's part; the rest of the struct; …]
       move ! (2 ∷ []) $ lft-end ! tt $ move ! (0 ∷ 4 ∷ 3 ∷ []) $ bytes-back ! tt n (a .0 .ptr .0) (p-high (a .0)) (ws .1 .1 .1 .0) (λ z-is.
       -- [high; low; the tokens and the last values; the rest of the struct; …]
       move ! (1 ∷ 0 ∷ 3 ∷ []) $ use3 W (Cell 𝓤 H A W (a .0) (parts-with 𝓤 H A W (a .0) (ws .1 .1 .0) (ws .1 .1 .1 .0))) (again 𝓤 H A W (a .0) (ws .1 .1 .0) (ws .1 .1 .1 .0)) $
-      -- [the struct's cell; the tokens and the last values; the open borrow; obs; auth; _15 5; …; _6 23; …; _1 33; …; room for _0 35; …; what i owns]
-      assigns ! (of-opd ! (load ! (from ! (fld ! refl (stop !))) (look-in ! 23 (sub ! 1 refl (whole !))))) (from ! (hop ! (look ! 33 refl) (fld ! refl (stop !)))) (store-in ! 0 (sub ! 1 refl (whole !)) (typed 𝓤 H A W R (S .latter s) _ (S .are s _ s-is .1 .0))) $
-      assigns ! (of-opd ! (load ! (from ! (fld ! refl (stop !))) (look-in ! 23 (sub ! 2 refl (whole !))))) (from ! (stop !)) (init ! 5 refl (tt, tt)) $
+      -- [the struct's cell; the tokens and the last values; the open borrow; obs; auth; _17 5; …; _7 25; …; _1 37; …; room for _0 39; …; what i owns]
+      assigns ! (of-opd ! (load ! (from ! (fld ! refl (stop !))) (look-in ! 25 (sub ! 1 refl (whole !))))) (from ! (hop ! (look ! 37 refl) (fld ! refl (stop !)))) (store-in ! 0 (sub ! 1 refl (whole !)) (typed 𝓤 H A W R (S .latter s) _ (S .are s _ s-is .1 .0))) $
+      assigns ! (of-opd ! (load ! (from ! (fld ! refl (stop !))) (look-in ! 25 (sub ! 2 refl (whole !))))) (from ! (stop !)) (init ! 5 refl (tt, tt)) $
       joins ! (load ! (from ! (stop !)) (look ! 5 refl))
-      (λ on. step (λ k. assigns-last ! (of-opd ! (load ! (from ! (fld ! refl (stop !))) (look-in ! 23 (sub ! 0 refl (whole !))))) (from ! (hop ! (look ! 33 refl) (fld ! refl (stop !)))) (store-in ! 0 (sub ! 0 refl (whole !)) (typed 𝓤 H A W P (S .former s) _ (S .are s _ s-is .0))) $
+      (λ on. step (λ k. assigns-last ! (of-opd ! (load ! (from ! (fld ! refl (stop !))) (look-in ! 25 (sub ! 0 refl (whole !))))) (from ! (hop ! (look ! 37 refl) (fld ! refl (stop !)))) (store-in ! 0 (sub ! 0 refl (whole !)) (typed 𝓤 H A W P (S .former s) _ (S .are s _ s-is .0))) $
       rewrite ! 0 (λ (p : P .row .Denot). Cell 𝓤 H A W (a .0) (parts p (S .latter s) (ws .1 .1 .0) (ws .1 .1 .1 .0))) (chosen (S .replaces s) (S .former s) _ on) refl $ k))
       (λ off. step (λ k. skips ! $ rewrite ! 0 (λ (p : P .row .Denot). Cell 𝓤 H A W (a .0) (parts p (S .latter s) (ws .1 .1 .0) (ws .1 .1 .1 .0))) (passed-over (S .replaces s) (S .former s) _ off) refl $ k)) $
-      assigns ! (of-opd ! (load ! (from ! (fld ! refl (stop !))) (look-in ! 23 (sub ! 3 refl (whole !))))) (from ! (stop !)) (init ! 35 refl (typed 𝓤 H A W (number w32) (S .answer s) _ (S .are s _ s-is .1 .1 .1 .0))) $
+      assigns ! (of-opd ! (load ! (from ! (fld ! refl (stop !))) (look-in ! 25 (sub ! 3 refl (whole !))))) (from ! (stop !)) (init ! 39 refl (typed 𝓤 H A W (number w32) (S .answer s) _ (S .are s _ s-is .1 .1 .1 .0))) $
       -- the borrow is closed at the new struct
       use1 W (‵ (fat fullShare (rawTy T-ty) (a .0 .ptr .0) (a .0 .ptr .1) (vstruct (parts (after (a .0 .now) s) (S .latter s) (ws .1 .1 .0) (ws .1 .1 .1 .0))))) (W .laws .at-raw fullShare T-ty (a .0 .ptr .0) (a .0 .ptr .1) _) $
       rewrite ! 0 (λ (v : Val). ‵ (fat fullShare (rawTy T-ty) (a .0 .ptr .0) (a .0 .ptr .1) v)) (made-is (a .0 .now) _ is s _ s-is _ y-is _ z-is .0) refl $ rewrite ! 0 (λ (τ : Ty). ‵ (fat fullShare (rawTy τ) (a .0 .ptr .0) (a .0 .ptr .1) (T .val (made (a .0 .now) s (ws .1 .1 .0) (ws .1 .1 .1 .0))))) (sym (L .lies)) refl $
       move ! (0 ∷ 2 ∷ 3 ∷ 4 ∷ []) $ closes-held ! tt T (a .0) (made (a .0 .now) s (ws .1 .1 .0) (ws .1 .1 .1 .0)) (made-is (a .0 .now) _ is s _ s-is _ y-is _ z-is .1) $
-      -- [obs; the borrow; c's token; the tokens and the last values; _15 4; …; _0 34; …; what i owns]
-      returns ! (look ! 34 refl) $ leaves ! 34 refl refl $ leaves ! 32 refl refl $ leaves ! 30 refl refl $ leaves ! 28 refl refl $ leaves ! 26 refl refl $ leaves ! 24 refl refl $ leaves ! 22 refl refl $ leaves ! 20 refl refl $
+      -- [obs; the borrow; c's token; the tokens and the last values; _17 4; …; _0 38; …; what i owns]
+      returns ! (look ! 38 refl) $ leaves ! 38 refl refl $ leaves ! 36 refl refl $ leaves ! 34 refl refl $ leaves ! 32 refl refl $ leaves ! 30 refl refl $ leaves ! 28 refl refl $ leaves ! 26 refl refl $ leaves ! 24 refl refl $ leaves ! 22 refl refl $ leaves ! 20 refl refl $
       leaves ! 18 refl refl $ leaves ! 16 refl refl $ leaves ! 14 refl refl $ leaves ! 12 refl refl $ leaves ! 10 refl refl $ leaves ! 8 refl refl $ leaves ! 6 refl refl $ leaves ! 4 refl refl $ free0 ! $
-      step-back ! T (number w32) lend-says κs qs a (made (a .0 .now) s (ws .1 .1 .0) (ws .1 .1 .1 .0)) (S .answer s) (ws .1 .1 .1 .1 .1 .0) (ws .1 .1 .1 .1 .1 .1 .0) (ws .1 .1 .1 .1 .1 .1 .1 .0) len (follows (a .0 .now) (a .1 .0 .now) (a .1 .1 .0 .now) s _ _ _ _ _ e) (S .are s _ s-is .1 .1 .1 .0))))))))))))))))))))))))))
+      step-back ! T (number w32) lent-on lend-says κs qs a (made (a .0 .now) s (ws .1 .1 .0) (ws .1 .1 .1 .0)) (S .answer s) (ws .1 .1 .1 .1 .1) (len, (tt, (tt, (tt, tt)))) (follows (a .0 .now) (a .1 .0 .now) (a .1 .1 .0 .now) s _ _ _ _ _ _ e) (S .are s _ s-is .1 .1 .1 .0))))))))))))))))))))))))))))
 
   pub lends : {M : Type 1} (𝓤 : URA M) (H : Heap 𝓤) (𝓜 : Model 𝓤 H) (𝓖 : GhostRules 𝓤 H) (𝓡 : Running 𝓤 H 𝓜) → Proves lend-law 𝓤 H 𝓜 𝓖 𝓡
   lends = proves lend-law lend-walk

@@ -53,10 +53,10 @@ the-call =
             are = owed S.the-type S′.the-laws;
           };
       Said =
-          λ p r buffer hold input out s buffer′ hold′ last taken size. Receives (receiveCall (controllerOf p r buffer hold) input out) (s .refusal) taken size
+          λ p r buffer hold input out s buffer′ hold′ last taken size wrong. Receives (receiveCall (controllerOf p r buffer hold) input out) (s .refusal) taken size wrong
           (controllerOf (cond (s .stored) (s .settings) p) (s .registers) buffer′ hold′) last;
-      Left = λ c input out after r last taken size. Receives (receiveCall c input out) r taken size after last;
-      follows = λ c input out s buffer′ hold′ last taken size said. said;
+      Left = λ c input out after r last taken size wrong. Receives (receiveCall c input out) r taken size wrong after last;
+      follows = λ c input out s buffer′ hold′ last taken size wrong said. said;
     }
 
 function-is : code.function ≡ lending the-call step.name

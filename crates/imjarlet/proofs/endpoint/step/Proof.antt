@@ -1,5 +1,5 @@
--- `step` meets its contract: that of `command::serve`, its answer as numbers.
-use mathlib.Core.Path.{ap}
+-- `step` meets its contract: that of `command::serve`, its answer as numbers, and 0 behind them.
+use mathlib.Core.Path.{refl, ap}
 use denote.Ref.{now}
 use borrow.Author.Needs.{needs}
 use Rattle.packet.proofs.Answering.{numbers-say}
@@ -17,15 +17,17 @@ returns c =
     let n = c .told .ensures in
     let u = s .before .before .before .before .before .before .args in
     let came = controllerOf (u .settings) (u .registers) (now (u .buffer)) (now (u .hold)) in
-    let told = rw a at n in
-    record {
-      told = told;
-      says = numbers-say (receiveCall came (now (u .input)) (now (u .out)) .answer) (answer-sayable came (now (u .input)) (now (u .out))) told;
-      leaves =
-          rw (stored-settings came (now (u .input)) (now (u .out)) a (ap (λ (x : After). x .controller .settings) e) (s .serve .ensures .1))
-          (ap (λ (x : After). x .controller) e);
-      writes = ap (λ (x : After). x .output) e;
-    }
+    let told = rw a at n in (
+      record {
+        told = told;
+        says = numbers-say (receiveCall came (now (u .input)) (now (u .out)) .answer) (answer-sayable came (now (u .input)) (now (u .out))) told;
+        leaves =
+            rw (stored-settings came (now (u .input)) (now (u .out)) a (ap (λ (x : After). x .controller .settings) e) (s .serve .ensures .1))
+            (ap (λ (x : After). x .controller) e);
+        writes = ap (λ (x : After). x .output) e;
+      },
+      refl,
+    )
 
 pub step-spec : {M : Type 1} → statement M
 step-spec = tie.close (tie.spec (λ c κs. search needs) (λ c κs. search needs) (λ c. search needs) returns)
