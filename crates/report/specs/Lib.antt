@@ -6,5 +6,6 @@ pub mod Refusals
 pub mod Verdict
 pub mod Line
 pub mod Request2
+pub mod Request4
 pub mod Examples
 pub mod Inner

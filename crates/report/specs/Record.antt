@@ -2,6 +2,7 @@
 use Prim.Native.Nat.{ℕ, _+_}
 use mathlib.Core.Bool.{Bool, true, false, cond, _&&_}
 use mathlib.Core.List.{List}
+use mathlib.Core.Option.{Option, none, some}
 use lib.Dec.{eqb, leb}
 use lib.ListN.{length, take, drop}
 use Rattle.packet.specs.Number.{valueOf}
@@ -25,6 +26,11 @@ m >> k = m >>= λ u. k
 unfoldable pub need : Bool → ℕ → ℕ → Out Bool
 need true n p = Good true
 need false n p = Bad n p
+
+-- refused with this number where something offends, at its place, which is counted from p
+unfoldable pub without : Option ℕ → ℕ → ℕ → Out Bool
+without none n p = Good true
+without (some k) n p = Bad n (p + k)
 
 -- a record's body, and the bytes after the record
 pub record Piece : Type 0 where

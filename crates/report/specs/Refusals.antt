@@ -6,6 +6,7 @@ use lib.ListN.{length, take}
 use Rattle.packet.specs.Number.{valueOf, bytesOf}
 use Rattle.command.specs.Settings.{factory}
 use Rattle.command.specs.Player.{play}
+use Rattle.command.specs.Request4.{Earliest}
 use Rattle.report.specs.Report.{Trial, endFrom}
 use Rattle.report.specs.Claim.{recordOf, headOf, trialRecords, reportOf, Scores, Layout, FirstLowest, Ships}
 
@@ -57,9 +58,9 @@ pub data Fault (r : List ℕ) : ℕ → ℕ → Type 0 where
       → Fault r 20 (length (reportOf ts k ship))
   -- winner not the first of the lowest score
   F17 : (ts : List Trial) (k : ℕ) (ship : List ℕ) → Layout r ts k ship → (FirstLowest ts k → ⊥) → Fault r 17 (8 + length (trialRecords ts))
-  -- shipping bytes not all whole packets, one not answered by a write response, or a transfer left open
-  F18 : (ts : List Trial) (k : ℕ) (ship : List ℕ) → Layout r ts k ship → FirstLowest ts k → (Ships factory ship → ⊥)
-      → Fault r 18 (14 + length (trialRecords ts))
+  -- shipping bytes not all whole packets, one not answered by a write response, or a transfer left open; at the earliest byte that offends (request 4)
+  F18 : (ts : List Trial) (k : ℕ) (ship : List ℕ) (n : ℕ) → Layout r ts k ship → FirstLowest ts k → Earliest factory ship n
+      → Fault r 18 (18 + length (trialRecords ts) + n)
   -- shipping settings differ from the winner's end settings
   F19 : (ts : List Trial) (k : ℕ) (ship : List ℕ) → Layout r ts k ship → FirstLowest ts k → Ships factory ship
       → (play factory ship .settings ≡ endFrom factory ts k → ⊥)

@@ -9,8 +9,8 @@ use Rattle.command.specs.Table.{table}
 use Rattle.command.specs.Settings.{valuesOf, factory}
 use Rattle.command.specs.declared.settings.Settings.{Settings}
 use Rattle.command.specs.declared.table.Command.{Command}
-use Rattle.command.specs.Player.{play, isNil, clean}
-use Rattle.report.specs.Record.{Out, Bad, Good, _>>=_, _>>_, need, reading}
+use Rattle.command.specs.Player.{play, isNil, offence}
+use Rattle.report.specs.Record.{Out, Bad, Good, _>>=_, _>>_, need, without, reading}
 
 -- a trial: its score and its packet bytes
 pub record Trial : Type 0 where
@@ -106,11 +106,11 @@ every f (c ∷ cs) = f c && every f cs
 unfoldable pub sameSettings : Settings → Settings → Bool
 sameSettings a b = every (λ c. sameList (valuesOf c a) (valuesOf c b)) table
 
--- The last three refusals, 17, 18 and 19, of a report played from these factory values.
+-- The last three refusals, 17, 18 and 19, of a report played from these factory values. Kind 4 is 6 bytes after kind 3, and its shipping packets 10.
 unfoldable pub checkReport : Settings → Report → Out Report
 checkReport f r = do
   need (firstLowest (r .trials) (r .winner)) 17 (r .place)
-  need (clean f (r .shipping)) 18 (r .place + 6)
+  without (offence f (r .shipping)) 18 (r .place + 10)
   need (sameSettings (play f (r .shipping) .settings) (endFrom f (r .trials) (r .winner))) 19 (r .place + 6)
   Good r
 

@@ -4,7 +4,7 @@ use mathlib.Core.Path.{_≡_}
 use mathlib.Core.List.{List, _∷_, _++_}
 use lib.ListN.{length}
 use Rattle.packet.specs.Number.{Bytes}
-use Rattle.packet.specs.Stream.{packets}
+use Rattle.packet.specs.Stream.{packets, bytesIn}
 use Rattle.command.specs.Settings.{factory}
 use Rattle.command.specs.Faults.{arrived}
 use Rattle.command.specs.Player.{from, after}
@@ -29,7 +29,7 @@ pub record Request2 : Type 0 where
   pub trials : (ts : List Trial) (k : ℕ) → ShownWhole (endFrom factory ts k .sequence)
   -- nor do the settings of a report that is accepted
   pub accepted : (r : List ℕ) (k score : ℕ) (s : Settings) → Bytes r → verdict r ≡ Accepted k score s → ShownWhole (s .sequence)
-  -- and a report that ships such a write, with no refusal before it, is refused with 18, at kind 4
+  -- and a report that ships such a write, with no refusal before it, is refused with 18, at that packet or an earlier one
   pub shipped : (r : List ℕ) (ts : List Trial) (k : ℕ) (ship : List ℕ) → Bytes r → length r ≤ 60000 → Layout r ts k ship → FirstLowest ts k
-      → AsksTooMany factory ship
-      → verdict r ≡ Refused 18 (14 + length (trialRecords ts))
+      → (a : AsksTooMany factory ship)
+      → (n : ℕ) × (verdict r ≡ Refused 18 (18 + length (trialRecords ts) + n)) × (n ≤ bytesIn (a .before))

@@ -7,6 +7,7 @@ use crate::record::Outcome;
 use crate::record::refusal;
 use crate::same::same_settings;
 use crate::trials::best_of;
+use command::Offence;
 use command::Settings;
 use command::play;
 ghost use mathlib.Core.Path.{_≡_};
@@ -55,9 +56,11 @@ pub fn check(r: &[u8]) -> Checked
         return refused(named);
     };
     let ship = place + WINNER_RECORD;
-    let shipped = play(Settings::factory(), &r[ship + HEADER..]);
-    if !shipped.clean {
-        return refused(refusal(18, ship));
+    let packets = ship + HEADER;
+    let shipped = play(Settings::factory(), &r[packets..]);
+    let offence = shipped.offence;
+    if let Offence::At(n) = offence {
+        return refused(refusal(18, packets + n));
     }
     let settings = best.settings;
     if !same_settings(shipped.settings, settings) {

@@ -1,5 +1,5 @@
 -- Where bytes that are played offend: the place that is named is the earliest, and none is named exactly where each packet is acknowledged and nothing is left half sent.
-use Prim.Native.Nat.{ℕ, _+_, _≤_, min}
+use Prim.Native.Nat.{ℕ, _+_, _<_, _≤_, min}
 use mathlib.Core.Path.{_≡_, refl, ap, ap₂, sym, subst, _∙_}
 use mathlib.Core.Logic.{_↔_, _⊎_, inl, inr, ⊎-elim}
 use mathlib.Core.Bool.{Bool, true, false, cond, not, _&&_}
@@ -10,7 +10,8 @@ use native.Mathlib.Omega.{arith}
 use lib.ListN.{length}
 use borrow.Author.Tests.{not-true}
 use Rattle.packet.specs.Stream.{packets, bytesIn}
-use Rattle.packet.proofs.Cases.{bool-cases, lt-cases, and-left, and-right, never}
+use Rattle.packet.proofs.Cases.{lt-cases, and-left, and-right, never}
+use Rattle.packet.proofs.StreamLaws.{packet-within, rest-within}
 use Rattle.command.specs.Response.{acknowledged}
 use Rattle.command.specs.Transfer.{Transfer, Closed, Opened, isOpen}
 use Rattle.command.specs.Player.{State, from, judged, next, judgements, judgementsOn, after, play, allAcknowledged, isNil, halfSent, notAcknowledged, leftOpen, unfinished, earliest, offence}
@@ -252,6 +253,15 @@ module _ (s : Settings) (b : List ℕ) where
 
   offends-least : Least (Offends s b) (offence s b)
   offends-least = least-map of-kind kind-of (offence s b) kinds-least
+
+  pub none-offends : offence s b ≡ none → (m : ℕ) → Offends s b m → ⊥
+  none-offends e m h = subst (Least (Offends s b)) e offends-least m h
+
+  -- it is the place of a byte
+  pub within-bytes : (n : ℕ) → Offends s b n → n < length b
+  within-bytes n (NotAcknowledged before p behind c e) = packet-within b before p behind c
+  within-bytes n (Unfinished h) = rest-within b h
+  within-bytes n (LeftOpen before p behind c z w) = packet-within b before p behind c
 
   -- the place that is named is the earliest
   pub earliest-named : (n : ℕ) → (offence s b ≡ some n) ↔ Earliest s b n

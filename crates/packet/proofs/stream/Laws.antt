@@ -3,6 +3,7 @@ use Prim.Native.Nat.{ℕ, zero, suc, _+_, _*_, _-_, _<_, _≤_}
 use mathlib.Core.Path.{_≡_, refl, ap, ap₂, sym, _∙_, subst}
 use mathlib.Core.Bool.{Bool, true, false, cond, and-false}
 use mathlib.Core.List.{List, [], _∷_, _++_, append-assoc}
+use native.Mathlib.Nat.{zero-add}
 use native.Mathlib.Omega.{arith}
 use lib.Dec.{eqb, leb}
 use borrow.Author.Tests.{leb-true, le-leb, lt-leb}
@@ -141,6 +142,48 @@ rest-short b =
     (λ x h. ap hasPacket (rest-none x h) ∙ h)
     (λ p x i h. ap hasPacket (rest-cons p x i) ∙ h)
     b
+
+-- The packets of some bytes and what is left are all of them, so that the place of a packet, and of what is left, is that of a byte.
+
+bytes-append : (ps qs : List (List ℕ)) → bytesIn (ps ++ qs) ≡ bytesIn ps + bytesIn qs
+unfolding bytesIn
+bytes-append [] qs = sym (zero-add (bytesIn qs))
+bytes-append (p ∷ ps) qs = ap (λ (n : ℕ). length p + n) (bytes-append ps qs) ∙ omega arith
+
+-- no packet is empty
+abbrev Filled : List (List ℕ) → Type 0
+Filled [] = Unit {0}
+Filled (p ∷ ps) = (0 < length p) × Filled ps
+
+filled : (b : List ℕ) → Filled (packets b)
+filled =
+    packet-induction (λ b. Filled (packets b))
+    (λ b h. rw (packets-none b h) tt)
+    (λ p b i h. rw (packets-cons p b i) (omega (arith, i .least), h))
+
+filled-at : (before : List (List ℕ)) (p : List ℕ) (behind : List (List ℕ)) → Filled (before ++ (p ∷ behind)) → 0 < length p
+filled-at [] p behind h = h .0
+filled-at (q ∷ before) p behind h = filled-at before p behind (h .1)
+
+pub bytes-all : (b : List ℕ) → bytesIn (packets b) + length (rest b) ≡ length b
+unfolding bytesIn
+bytes-all =
+    packet-induction (λ b. bytesIn (packets b) + length (rest b) ≡ length b)
+    (λ b h. rw (packets-none b h, rest-none b h) (zero-add (length b)))
+    (λ p b i h. rw (packets-cons p b i, rest-cons p b i) (omega (arith, h, length-append p b)))
+
+pub packet-within : (b : List ℕ) (before : List (List ℕ)) (p : List ℕ) (behind : List (List ℕ)) → packets b ≡ before ++ (p ∷ behind) → bytesIn before < length b
+unfolding bytesIn
+packet-within b before p behind c =
+    let n = filled-at before p behind (subst Filled c (filled b)) in
+    omega (arith, n, bytes-all b, ap bytesIn c, bytes-append before (p ∷ behind))
+
+pub rest-within : (b : List ℕ) → (rest b ≡ [] → ⊥) → bytesIn (packets b) < length b
+rest-within b h = go (rest b) refl
+  where
+    go : (l : List ℕ) → rest b ≡ l → bytesIn (packets b) < length b
+    go [] e = absurd (h e)
+    go (x ∷ l) e = omega (arith, bytes-all b, ap length e)
 
 some-bytes : (n : ℕ) (b : List ℕ) → Bytes b → AllBytes (packetsIn n b)
 unfolding packetsIn

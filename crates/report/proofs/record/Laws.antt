@@ -3,6 +3,7 @@ use Prim.Native.Nat.{ℕ, zero, suc, _+_, _*_, _<_, _≤_}
 use mathlib.Core.Path.{_≡_, ap, sym, _∙_, subst}
 use mathlib.Core.Bool.{Bool, true, false, and-false}
 use mathlib.Core.List.{List, [], _∷_, _++_}
+use mathlib.Core.Option.{Option, none, some}
 use native.Mathlib.Omega.{arith}
 use native.Mathlib.Nat.{suc-add, zero-add}
 use lib.Dec.{leb}
@@ -10,7 +11,7 @@ use borrow.Author.Tests.{le-leb, lt-leb, eq-eqb, ne-eqb, eqb-true, leb-true}
 use lib.ListN.{length, take, drop, length-drop}
 use lib.Seq.{drop-drop, drop-cons, take-nil, take-at, drop-at, length-take-le}
 use Rattle.packet.specs.Number.{valueOf}
-use Rattle.report.specs.Record.{Out, Bad, Good, _>>=_, _>>_, need, sized, reading}
+use Rattle.report.specs.Record.{Out, Bad, Good, _>>=_, _>>_, need, without, sized, reading}
 use Rattle.report.specs.Inner.{RecordIs, RecordAt}
 use Rattle.report.specs.declared.record.Outcome.{Outcome}
 use Rattle.report.specs.declared.record.Outcome.the-variants.{Value, Refused}
@@ -31,6 +32,14 @@ pass t n p m {o} e h = rw e h
 pub fail : {B : Type 0} (t : Bool) (n p : ℕ) (m : Out B) → t ≡ false → (need t n p >> m) ≡ Bad n p
 unfolding _>>=_ need
 fail t n p m e = rw e
+
+pub pass-none : {B : Type 0} (o : Option ℕ) (n p : ℕ) (m : Out B) {x : Out B} → o ≡ none → m ≡ x → (without o n p >> m) ≡ x
+unfolding _>>=_ without
+pass-none o n p m {x} e h = rw e h
+
+pub fail-some : {B : Type 0} (o : Option ℕ) (n p : ℕ) (m : Out B) {k : ℕ} → o ≡ some k → (without o n p >> m) ≡ Bad n (p + k)
+unfolding _>>=_ without
+fail-some o n p m {k} e = rw e
 
 -- The four ends: 11, 12, 13, and the record.
 module _ (kind at : ℕ) (b : List ℕ) where

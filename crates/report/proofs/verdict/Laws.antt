@@ -3,6 +3,7 @@ use Prim.Native.Nat.{ℕ, _+_, _-_, _<_}
 use mathlib.Core.Path.{_≡_, refl, ap, ap₂, sym, _∙_}
 use mathlib.Core.Bool.{Bool, true, false}
 use mathlib.Core.List.{List}
+use mathlib.Core.Option.{none, some}
 use native.Mathlib.Omega.{arith}
 use lib.Dec.{eqb, ltb}
 use borrow.Author.Tests.{eqb-false, ltb-true}
@@ -12,7 +13,7 @@ use Rattle.packet.specs.Number.{valueOf, Bytes}
 use Rattle.packet.proofs.Cases.{bool-cases}
 use Rattle.command.specs.Settings.{factory}
 use Rattle.command.specs.declared.settings.Settings.{Settings}
-use Rattle.command.specs.Player.{play, isNil, clean}
+use Rattle.command.specs.Player.{play, isNil, offence}
 use Rattle.report.specs.Record.{Out, Bad, Good, _>>=_, _>>_, need, reading}
 use Rattle.report.specs.Report.{Trial, Report, readTrials, readHead, readEnd, readReport, firstLowest, sameSettings, checkReport, Verdict, Accepted, verdictOf, verdict, Refused as RefusedWith}
 use Rattle.report.specs.Claim.{Demand3}
@@ -20,7 +21,7 @@ use Rattle.report.specs.Inner.{HeadIs, BestIs, namedAt, WinnerIs}
 use Rattle.report.specs.Verdict.{verdictIn, scoreIn, settingsIn}
 use Rattle.report.specs.declared.record.Outcome.{Outcome}
 use Rattle.report.specs.declared.record.Outcome.the-variants.{Value, Refused}
-use Rattle.report.proofs.record.Laws.{pass, fail}
+use Rattle.report.proofs.record.Laws.{pass, pass-none, fail, fail-some}
 use Rattle.report.proofs.trials.Laws.{lowest-true, lowest-back, lowest-one}
 use Rattle.report.proofs.Demand3.{demand3-of}
 
@@ -136,21 +137,21 @@ module _ (r : List ℕ) {m at j score : ℕ} {e : Settings} (h : HeadIs r m) (b 
     lowest : firstLowest ts j ≡ true
     lowest = lowest-back ts j (b .best .first)
 
-    pub refused-18 : clean factory (shipIn r at) ≡ false → verdict r ≡ RefusedWith 18 (at + 6)
+    pub refused-18 : {n : ℕ} → offence factory (shipIn r at) ≡ some n → verdict r ≡ RefusedWith 18 (at + 10 + n)
     unfolding verdictOf checkReport
-    refused-18 x = verdict-read ∙ ap (verdictOf factory) (pass _ 17 at _ lowest (fail _ 18 (at + 6) _ x))
+    refused-18 x = verdict-read ∙ ap (verdictOf factory) (pass _ 17 at _ lowest (fail-some _ 18 (at + 10) _ x))
 
-    module _ (yes : clean factory (shipIn r at) ≡ true) where
+    module _ (yes : offence factory (shipIn r at) ≡ none) where
       pub refused-19 : sameSettings (play factory (shipIn r at) .settings) e ≡ false → verdict r ≡ RefusedWith 19 (at + 6)
       unfolding verdictOf checkReport
       refused-19 x =
           verdict-read
-          ∙ ap (verdictOf factory) (pass _ 17 at _ lowest (pass _ 18 (at + 6) _ yes (fail _ 19 (at + 6) _ (ap (sameSettings (play factory (shipIn r at) .settings)) (sym (b .best .ends)) ∙ x))))
+          ∙ ap (verdictOf factory) (pass _ 17 at _ lowest (pass-none _ 18 (at + 10) _ yes (fail _ 19 (at + 6) _ (ap (sameSettings (play factory (shipIn r at) .settings)) (sym (b .best .ends)) ∙ x))))
 
       pub accepted-with : sameSettings (play factory (shipIn r at) .settings) e ≡ true → verdict r ≡ Accepted k score e
       unfolding verdictOf checkReport
       accepted-with same =
           verdict-read
-          ∙ ap (verdictOf factory) (pass _ 17 at _ lowest (pass _ 18 (at + 6) _ yes (pass _ 19 (at + 6) _ (ap (sameSettings (play factory (shipIn r at) .settings)) (sym (b .best .ends)) ∙ same) refl)))
+          ∙ ap (verdictOf factory) (pass _ 17 at _ lowest (pass-none _ 18 (at + 10) _ yes (pass _ 19 (at + 6) _ (ap (sameSettings (play factory (shipIn r at) .settings)) (sym (b .best .ends)) ∙ same) refl)))
           ∙ ap₂ (λ (x : ℕ) (y : Settings). Accepted j x y) (sym (b .best .scored)) (sym (b .best .ends))
           ∙ ap (λ (x : ℕ). Accepted x score e) (sym (w .named))

@@ -3,6 +3,7 @@ use Prim.Native.Nat.{ℕ, zero, suc, _+_, _^_, _<_, _≤_}
 use mathlib.Core.Path.{_≡_, refl, ap, ap₂, sym, _∙_, subst}
 use mathlib.Core.Bool.{Bool, true, false, not, _&&_}
 use mathlib.Core.List.{List, [], _∷_, _++_, append-assoc, append-nil}
+use mathlib.Core.Option.{Option, none, some}
 use native.Mathlib.Omega.{arith}
 use lib.Dec.{leb, eqb}
 use borrow.Author.Tests.{leb-true, leb-false, le-leb, eqb-true, eqb-false, ltb-true, ltb-false, not-true}
@@ -12,7 +13,7 @@ use Rattle.packet.specs.Number.{valueOf, bytesOf, Bytes}
 use Rattle.packet.proofs.Cases.{bool-cases, and-right, and-both}
 use Rattle.packet.proofs.NumberLaws.{bytes-take, bytes-drop, bytes-value, value-bound}
 use Rattle.command.specs.Player.{isNil}
-use Rattle.report.specs.Record.{Out, Bad, Good, _>>=_, _>>_, need, Piece, sized, reading}
+use Rattle.report.specs.Record.{Out, Bad, Good, _>>=_, _>>_, need, without, Piece, sized, reading}
 use Rattle.report.specs.Report.{Trial, Trials, Report, readTrials, readHead, readEnd, readReport}
 use Rattle.report.specs.Claim.{recordOf, headOf, trialOf, trialRecords, reportOf, Scores, Layout}
 use Rattle.report.specs.Refusals.{Begins, Due, Head, More, Winner, Shipping, WrongLength, NotFour, UnderFour, NotTwo, Fault, F11, F12, F13, F14, F15, F16, F20, Refusal, Long, Later}
@@ -36,6 +37,11 @@ module _ {B : Type 0} {S : ℕ → ℕ → Type 0} {Q : B → Type 0} {m : Out B
   unfolding _>>=_ need
   needs true g k = k refl
   needs false g k = bad (g refl)
+
+  pub needs-none : (o : Option ℕ) → ((k : ℕ) → o ≡ some k → S n (p + k)) → (o ≡ none → Ends S Q m) → Ends S Q (without o n p >> m)
+  unfolding _>>=_ without
+  needs-none none g h = h refl
+  needs-none (some k) g h = bad (g k refl)
 
   pub needs-equal : (x y : ℕ) → ((x ≡ y → ⊥) → S n p) → (x ≡ y → Ends S Q m) → Ends S Q (need (eqb x y) n p >> m)
   needs-equal x y g k = needs (eqb x y) (λ e. g (eqb-false x y e)) (λ e. k (eqb-true x y e))

@@ -1,19 +1,22 @@
 -- `check` meets its contract.
-use Prim.Native.Nat.{ℕ, _+_, _≤_}
+use Prim.Native.Nat.{ℕ, _+_, _-_, _<_, _≤_}
 use mathlib.Core.Path.{_≡_, ap, sym, _∙_, subst}
-use mathlib.Core.Bool.{Bool, true, cond, _&&_}
+use mathlib.Core.Bool.{Bool, cond}
+use mathlib.Core.Option.{none, some}
 use mathlib.Core.List.{List}
 use native.Mathlib.Omega.{arith}
 use borrow.Author.Needs.{needs}
 use borrow.Author.Tests.{not-true, not-false}
 use denote.Ref.{now}
-use lib.ListN.{length}
+use lib.ListN.{length, length-take, drop, length-drop}
 use Rattle.packet.specs.Number.{Bytes}
 use Rattle.packet.proofs.NumberLaws.{bytes-at}
 use Rattle.command.specs.Settings.{factory}
 use Rattle.command.specs.declared.settings.Settings.{Settings}
-use Rattle.command.specs.Player.{play, clean, endSettings, endClean}
+use Rattle.command.specs.Player.{play, offence, endSettings, endOffence, placeOf}
 use Rattle.command.proofs.RulesLaws.{kept-factory, in-rule-of}
+use Rattle.command.proofs.PlayerOffences.{within-bytes}
+use Rattle.command.proofs.Request4.{request-4}
 use Rattle.report.specs.Report.{sameSettings}
 use Rattle.report.specs.Inner.{HeadIs, HeadAt, BestIs, BestAt, WinnerIs, WinnerAt}
 use Rattle.report.specs.declared.record.Outcome.{Outcome}
@@ -72,17 +75,30 @@ ship c =
     let n = nextOf (c .before .before .before) in
     shipIn (reportIn (start (headOf n))) (n .next .given .0 .0)
 
-played : (c : tie.After-play) → (c .play .result .settings ≡ play factory (ship c) .settings) × (c .play .result .clean ≡ clean factory (ship c))
+played : (c : tie.After-play) → (c .play .result .settings ≡ play factory (ship c) .settings) × (placeOf (c .play .result .offence) ≡ offence factory (ship c))
 played c =
     let f = c .before .before .factory .ensures in
     let e = in-rule-of factory kept-factory in (
       c .play .ensures .0 ∙ ap (λ (s : Settings). endSettings s (ship c)) f ∙ ap (λ (x : Bool). cond x (play factory (ship c) .settings) factory) e,
-      c .play .ensures .1 ∙ ap (λ (s : Settings). endClean s (ship c)) f ∙ ap (λ (x : Bool). x && clean factory (ship c)) e,
+      c .play .ensures .1 ∙ ap (λ (s : Settings). endOffence s (ship c)) f ∙ ap (λ (x : Bool). cond x (offence factory (ship c)) (some 0)) e,
     )
 
--- what was shipped is clean, and was compared
-clean-yes : (c : tie.Else1) → clean factory (ship (c .before .before)) ≡ true
-clean-yes c = sym (played (c .before .before) .1) ∙ not-false (c .before .before .play .result .clean) (c .if1 .left)
+-- what was shipped offends at this place of it, which is that of a byte
+offends-at : (c : tie.After-offence) → offence factory (ship (c .before .before)) ≡ some (c .offence .given .0 .0)
+offends-at c = sym (played (c .before .before) .1) ∙ ap placeOf (c .offence .given .1)
+
+offends-within : (c : tie.After-offence) → c .offence .given .0 .0 < 60000
+offends-within c =
+    let q = c .before .before in
+    let d = q .before .before .before in
+    let n = within-bytes factory (ship q) _ (request-4 .offends factory (ship q) _ .0 (offends-at c) .offends) in
+    let r = reportIn (start (headOf (nextOf d))) in
+    let at = nextOf d .next .given .0 .0 in
+    omega (arith, n, room d, length-take (length r - (at + 6 + 4)) (drop (at + 6 + 4) r), length-drop (at + 6 + 4) r)
+
+-- or it does not offend, and was compared
+clean-yes : (c : tie.After-enum-told5) → offence factory (ship (c .before .before)) ≡ none
+clean-yes c = sym (played (c .before .before) .1) ∙ ap placeOf (c .enum-told5 .given .1)
 
 compared : (c : tie.After-same-settings)
     → let q = c .before .before .before .before in
@@ -121,13 +137,14 @@ returns-3 c =
 
 returns-4 : tie.Need-returns-4
 returns-4 c =
-    let q = c .before .before .before .before in
+    let o = c .before .before .before in
+    let q = o .before .before in
     let d = q .before .before .before in
     let n = nextOf d in
     let h = headOf n in
     let r = reportIn (start h) in
-    promised-no r (all-bytes (start h)) (refused-18 r (head-is h) (best-is n) (winner-is d) (sym (played q .1) ∙ not-true (q .play .result .clean) (c .before .before .if1 .taken)))
-    (c .refused4 .ensures) (c .before .refusal .ensures)
+    let ten : n .next .given .0 .0 + 6 + 4 ≡ n .next .given .0 .0 + 10 = omega arith in
+    promised-no r (all-bytes (start h)) (refused-18 r (head-is h) (best-is n) (winner-is d) (offends-at o)) (c .refused4 .ensures) (rw ten at (c .before .refusal .ensures))
 
 returns-5 : tie.Need-returns-5
 returns-5 c =
@@ -137,7 +154,7 @@ returns-5 c =
     let n = nextOf d in
     let h = headOf n in
     let r = reportIn (start h) in
-    promised-no r (all-bytes (start h)) (refused-19 r (head-is h) (best-is n) (winner-is d) (clean-yes i) (compared m ∙ not-true (m .same-settings .result) (c .before .before .if2 .taken)))
+    promised-no r (all-bytes (start h)) (refused-19 r (head-is h) (best-is n) (winner-is d) (clean-yes i) (compared m ∙ not-true (m .same-settings .result) (c .before .before .if1 .taken)))
     (c .refused5 .ensures) (c .before .refusal2 .ensures)
 
 returns-6 : tie.Need-returns-6
@@ -148,15 +165,16 @@ returns-6 c =
     let n = nextOf d in
     let h = headOf n in
     let r = reportIn (start h) in
-    promised-yes r (all-bytes (start h)) (accepted-with r (head-is h) (best-is n) (winner-is d) (clean-yes i) (compared m ∙ not-false (m .same-settings .result) (c .if2 .left))) (d .enum-told3 .given .1)
+    promised-yes r (all-bytes (start h)) (accepted-with r (head-is h) (best-is n) (winner-is d) (clean-yes i) (compared m ∙ not-false (m .same-settings .result) (c .if1 .left))) (d .enum-told3 .given .1)
 
 pub check-spec : {M : Type 1} → statement M
 check-spec =
     tie.close
     (tie.spec (λ c κs. search needs) (λ c. search needs) (λ c. search needs) (λ c κs. search needs) returns
     (λ c κs. (head-is (c .before) .within, head-is (c .before) .some)) (λ c. search needs) (λ c. search needs) (λ c κs. search needs) returns-2 (λ c κs. best-is (c .before) .within)
-    (λ c. search needs) (λ c. search needs) (λ c κs. search needs) returns-3 (λ c. omega (arith, room c))
-    (λ c κs. search needs) (λ c. omega (arith, room (c .before))) (λ c. omega (arith, room (c .before)))
-    (λ c. omega (arith, room (c .before))) (λ c. search needs) (λ c κs. search needs) (λ c κs. search needs)
-    (λ c κs. search needs) returns-4 (λ c κs. search needs) (λ c κs. search needs) (λ c κs. search needs) returns-5
+    (λ c. search needs) (λ c. search needs) (λ c κs. search needs) returns-3 (λ c. omega (arith, room c)) (λ c. omega (arith, room c))
+    (λ c κs. search needs) (λ c. omega (arith, room (c .before)))
+    (λ c. omega (arith, room (c .before))) (λ c. search needs) (λ c κs. search needs)
+    (λ c. search needs) (λ c. omega (arith, offends-within (c .before), room (c .before .before .before .before .before .before))) (λ c κs. search needs) (λ c κs. search needs) returns-4
+    (λ c. search needs) (λ c κs. search needs) (λ c κs. search needs) (λ c κs. search needs) returns-5
     returns-6)
