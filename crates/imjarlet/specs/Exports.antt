@@ -3,6 +3,7 @@ use Prim.Native.Nat.{ℕ}
 use mathlib.Core.Path.{_≡_}
 use mathlib.Core.Bool.{cond}
 use mathlib.Core.List.{List}
+use mathlib.Core.Option.{Option, none, some}
 use lib.Dec.{eqb, ltb}
 use lib.ListN.{length}
 use Rattle.packet.specs.Answer.{Performed}
@@ -19,10 +20,27 @@ use Rattle.report.specs.Report as tuning
 use Rattle.report.specs.Claim.{Demand3}
 use Rattle.imjarlet.specs.declared.verdict.Verdict.{Verdict}
 
--- A receive call that does as `after` says: the refusal, the bytes taken, the response's length, `wrong`, which is 0, the controller and the output afterwards.
-abbrev pub Receives : endpoint.After → ℕ → ℕ → ℕ → ℕ → Controller → List ℕ → Type 0
-Receives after refusal taken size wrong controller output =
-    Performed (after .answer) (after .controller) (after .output) refusal taken size controller output × (wrong ≡ 0)
+-- The byte that code 03 is about, as a number: all 64 bits set where there is none.
+abbrev pub noByte : ℕ
+noByte = 0xFFFFFFFFFFFFFFFF
+
+abbrev pub byteTold : Option ℕ → ℕ
+byteTold none = noByte
+byteTold (some n) = n
+
+-- what such a number says
+abbrev pub byteSaid : ℕ → Option ℕ
+byteSaid n = cond (eqb n noByte) none (some n)
+
+-- a number that tells this byte, or none
+pub record Tells (byte : Option ℕ) (n : ℕ) : Type 0 where
+  pub told : n ≡ byteTold byte
+  pub says : byteSaid n ≡ byte
+
+-- A receive call that does as `after` says: the refusal, the bytes taken, the response's length, the byte that is wrong, the controller and the output afterwards.
+pub record Receives (after : endpoint.After) (refusal taken size wrong : ℕ) (controller : Controller) (output : List ℕ) : Type 0 where
+  pub performed : Performed (after .answer) (after .controller) (after .output) refusal taken size controller output
+  pub names : Tells (after .wrong) wrong
 
 -- A call of the encoder, or of the standard list, that does as `after` says: the refusal, the length written at the output's start, the output afterwards.
 pub record Emits (after : encoding.After) (refusal size : ℕ) (output : List ℕ) : Type 0 where

@@ -3,12 +3,14 @@ use command::Controller;
 use command::HOLD;
 use command::Registers;
 use command::Settings;
+use command::WrongByte;
 ghost use mathlib.Core.Path.{_≡_};
 ghost use mathlib.Core.Bool.{cond};
 ghost use Rattle.command.specs.Controller.{fresh};
 ghost use Rattle.command.specs.Endpoint.{receiveCall};
 ghost use Rattle.command.specs.Lent.{controllerOf};
-ghost use Rattle.imjarlet.specs.Exports.{Receives};
+ghost use Rattle.command.specs.Rules.{byteOf};
+ghost use Rattle.imjarlet.specs.Exports.{Tells, Receives};
 
 // Puts a fresh controller where the caller has one, whatever stood there.
 #[no_mangle]
@@ -26,6 +28,19 @@ struct Stepped {
     // Whether the settings are to be stored. Otherwise they are as before.
     stored: bool,
     refusal: u32,
+}
+
+// What tells that no byte is wrong.
+const NO_WRONG_BYTE: u64 = 0xFFFF_FFFF_FFFF_FFFF;
+
+// The byte that is wrong, as a number.
+fn told_byte(w: WrongByte) -> u64
+    ensures { λ r. ⌜ Tells (byteOf w) r ⌝ }
+{
+    match w {
+        WrongByte::At(n) => n as u64,
+        WrongByte::Nothing => NO_WRONG_BYTE,
+    }
 }
 
 // The receive call, the arrays lent.
@@ -47,8 +62,9 @@ fn step(
     let after = s.settings;
     let left = s.registers;
     let answer = s.answer;
+    let byte = s.wrong;
     let refusal = packet::told(answer, taken, size);
-    *wrong = 0;
+    *wrong = told_byte(byte);
     Stepped {
         settings: after,
         registers: left,

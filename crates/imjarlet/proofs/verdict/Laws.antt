@@ -19,7 +19,7 @@ fault-number n p (F15 more is) = refl
 fault-number n p (F16 ts k more begins counted small above) = refl
 fault-number n p (F20 ts k ship x more is scores named) = refl
 fault-number n p (F17 ts k ship laid lowest) = refl
-fault-number n p (F18 ts k ship laid lowest ships) = refl
+fault-number n p (F18 ts k ship m laid lowest first) = refl
 fault-number n p (F19 ts k ship laid lowest ships equal) = refl
 
 refusal-number : {r : List ℕ} (n p : ℕ) → Refusal r n p → eqb n 0 ≡ false
