@@ -1,6 +1,7 @@
 // A row of the guide's tables of parameter values, tried at one value: the responses to a stream that
-// writes it to a fresh controller, what the encoder makes of it, and how long the standard list is of
-// settings that have it. All stand in one line, after a label that names the row and the value.
+// writes it to a fresh controller, the wrong bytes beside them, what the encoder makes of it, and how long
+// the standard list is of settings that have it. All stand in one line, after a label that names the row
+// and the value.
 use crate::emit;
 use crate::fields::SETTINGS;
 use crate::fields::byte;
@@ -26,6 +27,8 @@ pub fn tell(b: &[u8]) {
     text(&b[label..code]);
     text(b" |");
     stream::responses(&b[sent..settings]);
+    text(b" | wrong");
+    stream::wrong_bytes(&b[sent..settings]);
     text(b" | ");
     let s = settings_from(b, settings);
     emit::packet_of(rest, s);

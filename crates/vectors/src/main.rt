@@ -2,8 +2,8 @@
 // The file `01` has the cases of document 01: 700 packets, each after some bytes sent before, 400
 // streams of host bytes, 51 streams for the packet layer, and 507 reports. The file `02` has those of
 // request 2: 220 streams, 233 reports, 200 standard lists and 199 packets of the encoder. The file `03`
-// tries each row of the guide's tables of parameter values at its limits and just past them, 521 cases. A
-// case is a row: its kind in a byte, its length in four, least significant first, and its bytes.
+// tries each row of the guide's tables of parameter values at its limits and just past them, 521 cases.
+// A case is a row: its kind in a byte, its length in four, least significant first, and its bytes.
 // `scripts/vectors-data` makes the cases and the expected text from the vectors and the papers, and
 // nothing of it comes from this program. What is proved of the program is that it is safe and ends.
 mod emit;

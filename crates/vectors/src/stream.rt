@@ -1,12 +1,13 @@
-// A stream of host bytes to a fresh controller: the sizes of its packets, the responses, how many bytes
-// of an unfinished packet have come in, the open transfer, and the standard list of the end settings.
-// It is run byte by byte, whole, and cut in two at each place; the digest tells whether all agree. A row
-// of the guide asks for the responses alone.
+// A stream of host bytes to a fresh controller: the sizes of its packets, the byte that is wrong in each,
+// the responses, how many bytes of an unfinished packet have come in, the open transfer, and the standard
+// list of the end settings. It is run byte by byte, whole, and cut in two at each place; the digest tells
+// whether all agree. A row of the guide asks for the responses and the wrong bytes alone.
 use crate::said::Said;
 use crate::said::further;
 use crate::said::number;
 use crate::said::text;
 use command::Controller;
+use command::WrongByte;
 use packet::Answer;
 use packet::Next;
 ghost use Prim.Native.Nat.{_≤_};
@@ -34,11 +35,16 @@ fn taken_by(a: Answer) -> usize {
     }
 }
 
-fn respond(said: Said, a: Answer, out: &[u8]) -> Said {
-    let Answer::Answered { taken: _, length } = a else {
-        return said;
-    };
-    said.bytes(b" ", out, length)
+// The response and the wrong byte beside it. A call that completes no packet has neither; a wrong byte
+// that it told all the same would be one too many.
+fn respond(said: Said, a: Answer, wrong: WrongByte, out: &[u8]) -> Said {
+    if let Answer::Answered { taken: _, length } = a {
+        return said.bytes(b" ", out, length).wrong(wrong);
+    }
+    match wrong {
+        WrongByte::At(_) => said.wrong(wrong),
+        WrongByte::Nothing => said,
+    }
 }
 
 // The data of an open transfer stands at the start of its buffer.
@@ -90,7 +96,8 @@ fn feed(mut said: Said, b: &[u8], cut: usize, size: usize) -> Fed
         let s = command::receive(c, &b[at..end], &mut out);
         c = s.controller;
         let answer = s.answer;
-        said = respond(said, answer, &out);
+        let wrong = s.wrong;
+        said = respond(said, answer, wrong, &out);
         let next = further(at, taken_by(answer), end);
         if next == at {
             return Fed {
@@ -130,9 +137,16 @@ pub fn responses(b: &[u8]) {
     feed(Said::aloud(), b, 0, b.len());
 }
 
+// The wrong byte of each packet of such a stream.
+pub fn wrong_bytes(b: &[u8]) {
+    feed(Said::wrong_aloud(), b, 0, b.len());
+}
+
 pub fn tell(b: &[u8]) {
     text(b": packets");
     sizes(b);
+    text(b"\nwrong");
+    wrong_bytes(b);
     text(b"\nresponses");
     number(b"\ndigest ", runs(b) as usize);
     text(b"\n");
