@@ -3,8 +3,8 @@
 // streams of host bytes, 51 streams for the packet layer, and 507 reports. The file `02` has those of
 // request 2: 220 streams, 233 reports, 200 standard lists and 199 packets of the encoder. The file `03`
 // tries each row of the guide's tables of parameter values at its limits and just past them, 521 cases.
-// The file `04` has those of request 4: 216 streams, 233 reports, 200 standard lists and 199 packets of
-// the encoder.
+// The file `04` has those of request 4: 216 streams, 10 more in which several fields of a packet are wrong,
+// 233 reports, 15 more that are refused with 18, 200 standard lists and 199 packets of the encoder.
 // A case is a row: its kind in a byte, its length in four, least significant first, and its bytes.
 // `scripts/vectors-data` makes the cases and the expected text from the vectors and the papers, and
 // nothing of it comes from this program. What is proved of the program is that it is safe and ends.
