@@ -5,4 +5,4 @@ use Rattle.check_report.proofs.judge.Tie as tie
 
 pub judge-spec : {M : Type 1} → statement M
 judge-spec =
-    tie.close (tie.spec (λ c κs. search needs) (λ c κs. search needs) (λ c. rw (← c .before .check .ensures .0 .ruled) (c .write-line .ensures)))
+    tie.close (tie.spec (λ c κs. search needs) (λ c κs. search needs) (λ c. rw (← c .before .before .check .ensures .0 .ruled) (c .write-line .ensures)))
