@@ -3,6 +3,7 @@
 // words.
 use command::Controller;
 use command::OUTPUT;
+use command::WrongByte;
 use libc::STDERR_FILENO;
 use packet::Answer;
 ghost use Prim.Native.Nat.{_≤_};
@@ -28,8 +29,8 @@ struct Reached {
 
 // What a packet draws.
 enum Drawn {
-    // An error packet.
-    Error,
+    // An error packet, and the byte that its code 03 is about.
+    Error(WrongByte),
     // A read response.
     Read,
     // A write response, and the packet has opened a transfer.
@@ -113,9 +114,9 @@ fn reach(shipping: &[u8], place: usize) -> Reached
 }
 
 // What was drawn, by the type of the response and the flags of the packet.
-fn drawn_by(kind: u8, flags: u8) -> Drawn {
+fn drawn_by(kind: u8, flags: u8, wrong: WrongByte) -> Drawn {
     match kind {
-        packet::ERROR => Drawn::Error,
+        packet::ERROR => Drawn::Error(wrong),
         packet::READ_RESPONSE => Drawn::Read,
         packet::WRITE_RESPONSE => {
             if flags == packet::BEGINNING {
@@ -134,12 +135,13 @@ fn send(head: Controller, bytes: &[u8], response: &mut [u8; OUTPUT]) -> Drawn {
     let after = step.controller;
     let registers = after.registers;
     let header = registers.header;
+    let wrong = step.wrong;
     let answer = step.answer;
     match answer {
         Answer::Answered {
             taken: _,
             length: _,
-        } => drawn_by(response[0], header[3]),
+        } => drawn_by(response[0], header[3], wrong),
         Answer::Waiting(_) => Drawn::Unfinished,
         _ => Drawn::Other,
     }
@@ -175,6 +177,14 @@ fn tell_codes(response: &[u8; OUTPUT]) {
     }
 }
 
+// The field that code 03 is about, by its first byte in the data; in a transfer, in the joined data.
+fn tell_wrong(wrong: WrongByte) {
+    if let WrongByte::At(byte) = wrong {
+        number(b": the field at byte ", byte as usize);
+        text(b" of the command's data, counted from 0");
+    }
+}
+
 // How much there is of the unfinished packet that is these bytes.
 fn tell_unfinished(bytes: &[u8]) {
     number(b"is unfinished: the report has ", bytes.len());
@@ -201,9 +211,10 @@ fn tell_packet(head: Controller, bytes: &[u8], count: usize, place: usize) {
     number(b"check-report: packet ", count);
     text(b" of the shipping record (counted from 1) ");
     match drawn {
-        Drawn::Error => {
+        Drawn::Error(wrong) => {
             text(b"draws an error packet: ");
             tell_codes(&response);
+            tell_wrong(wrong);
         }
         Drawn::Read => text(b"draws a read response: it is a read and not a write"),
         Drawn::Opened => text(b"is acknowledged, but the transfer that it opens is left open"),
