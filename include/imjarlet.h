@@ -18,8 +18,8 @@
  * call may write (no const) overlaps nothing else that it is lent. Nothing is owed of the bytes
  * themselves, those of a controller and of settings included: the calls answer on all.
  *
- * A call returns 0 or the number of its refusal. In either case it sets all of *taken, *size and
- * *verdict, whatever stood there.
+ * A call returns 0 or the number of its refusal. In either case it sets all of *taken, *size, *wrong
+ * and *verdict that it is lent, whatever stood there.
  */
 #ifndef IMJARLET_H
 #define IMJARLET_H
@@ -72,6 +72,9 @@ enum {
     IMJARLET_CODE_ORDER = 0x0B      /* the flags are out of order */
 };
 
+/* What a receive call says for the wrong byte where it names none: all bits set, which is no byte's number. */
+#define IMJARLET_NO_WRONG_BYTE ((imjarlet_size)-1)
+
 /* What a call refuses. It then takes nothing and leaves output and controller as they were. */
 enum {
     IMJARLET_NO_REFUSAL = 0,    /* also where an error packet is the answer; of a report: it is accepted */
@@ -94,7 +97,9 @@ enum {
     IMJARLET_REPORT_NO_SUCH_WINNER = 16,     /* the winner is not below the count; at that record */
     IMJARLET_REPORT_NOT_LOWEST = 17,         /* the winner is not the first of the lowest-scored; at kind 3 */
     IMJARLET_REPORT_NOT_ACKNOWLEDGED = 18,   /* the shipping bytes are not all whole packets, one is not answered
-                                                by a write response, or a transfer is left open; at kind 4 */
+                                                by a write response, or a transfer is left open; at the first byte
+                                                of the first packet that is not so answered, of the unfinished one,
+                                                or of the one that opened that transfer: of these the earliest */
     IMJARLET_REPORT_OTHER_SETTINGS = 19,     /* the shipping packets leave other settings than the winner ended
                                                 with; at kind 4 */
     IMJARLET_REPORT_BYTES_AFTER = 20         /* bytes follow kind 4; at the first of them */
@@ -219,9 +224,21 @@ uint32_t imjarlet_reset(imjarlet_controller *c);
  *   0, otherwise     answered: *taken bytes of the input were taken, and the response is the first *size
  *                    bytes (7 or more) of the output, the rest of which is untouched
  *   1 or 3           refused: *taken and *size are 0
+ *
+ * Where the response is an error packet with code 03, *wrong says which value is not allowed: it is the
+ * number of the first data byte, counted from 0, of the first field that is not, in layout order. A field
+ * of two bytes is named by its first one (green 1025 is byte 2). A rule between two fields counts against
+ * the later one: X and Y that are no listed pair are byte 2, whatever X is; a count over the limit of its
+ * depth is byte 1; an inversion or a trigger that only depth 1 allows is byte 2 or 3. In a transfer the
+ * bytes are counted in the joined data. In every other case, waiting and refused among them, *wrong is
+ * IMJARLET_NO_WRONG_BYTE. The wrong byte is no part of the response.
+ *
+ * For C callers this call has changed (request 4): it takes one more pointer, the last, and always writes
+ * there. Code that was compiled with the declaration of before has to be changed and compiled anew.
  */
 uint32_t imjarlet_receive(imjarlet_controller *c, const uint8_t *input, imjarlet_size input_length,
-                          uint8_t *out, imjarlet_size out_length, imjarlet_size *taken, imjarlet_size *size);
+                          uint8_t *out, imjarlet_size out_length,
+                          imjarlet_size *taken, imjarlet_size *size, imjarlet_size *wrong);
 
 /*
  * The whole-packet write of what *settings has for the command CMD1 CMD2, at the output's start, *size

@@ -182,8 +182,16 @@ pub enum Refusal {
 pub enum Answer {
     /// The input ended before a packet did; all of it was taken and the output is untouched.
     Waiting { taken: usize },
-    /// One packet is complete, and its response is the first `length` bytes of the output.
-    Answered { taken: usize, length: usize },
+    /// One packet is complete, and its response is the first `length` bytes of the output. Where that is
+    /// an error packet with code 03, `wrong` is the first data byte, counted from 0, of the first field
+    /// that is not allowed, in layout order: green 1025 is byte 2. A rule between two fields counts
+    /// against the later one (X and Y that are no listed pair are byte 2, whatever X is), and in a
+    /// transfer the bytes are counted in the joined data. With any other response it is `None`.
+    Answered {
+        taken: usize,
+        length: usize,
+        wrong: Option<usize>,
+    },
 }
 
 /// The trial that an accepted report names, from 0, its score and the settings that it ended with.
@@ -215,7 +223,8 @@ pub enum Reason {
     /// The winner is not the first of the lowest-scored trials.
     NotLowest = 17,
     /// The shipping bytes are not all whole packets, one is not answered by a write response, or a
-    /// transfer is left open.
+    /// transfer is left open. The place is the first byte of the first packet that is not so answered,
+    /// of the unfinished one, or of the one that opened that transfer: of these the earliest.
     NotAcknowledged = 18,
     /// The shipping packets leave other settings than the winner ended with.
     OtherSettings = 19,
@@ -234,6 +243,9 @@ pub struct Refused {
 /// returns 0 or the number of its refusal.
 pub mod raw {
     use super::{Controller, Settings};
+
+    /// What a receive call says for the wrong byte where it names none: all bits set.
+    pub const NO_WRONG_BYTE: u64 = u64::MAX;
 
     /// What is said of a report: the trial's number, score and end settings, or the place.
     #[repr(C)]
@@ -255,6 +267,7 @@ pub mod raw {
             out_length: u64,
             taken: *mut u64,
             size: *mut u64,
+            wrong: *mut u64,
         ) -> u32;
         pub fn imjarlet_encode(
             cmd1: u8,
@@ -322,7 +335,7 @@ impl Controller {
     /// out. Call it again with the bytes behind those that were taken. Refuses a short output and a
     /// controller that is out of rule.
     pub fn receive(&mut self, input: &[u8], out: &mut [u8]) -> Result<Answer, Refusal> {
-        let (mut taken, mut size) = (0, 0);
+        let (mut taken, mut size, mut wrong) = (0, 0, 0);
         let number = unsafe {
             raw::imjarlet_receive(
                 self,
@@ -332,12 +345,17 @@ impl Controller {
                 out.len() as u64,
                 &mut taken,
                 &mut size,
+                &mut wrong,
             )
         };
         let (taken, length) = (taken as usize, size as usize);
         match (number, length) {
             (0, 0) => Ok(Answer::Waiting { taken }),
-            (0, _) => Ok(Answer::Answered { taken, length }),
+            (0, _) => Ok(Answer::Answered {
+                taken,
+                length,
+                wrong: (wrong != raw::NO_WRONG_BYTE).then_some(wrong as usize),
+            }),
             _ => Err(refusal(number)),
         }
     }

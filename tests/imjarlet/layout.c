@@ -5,6 +5,7 @@
  * is stored in a named field is what it reads, and each constant is drawn from it. No type has
  * padding, so two are compared by all their bytes.
  */
+#include <inttypes.h>
 #include <stdio.h>
 #include <string.h>
 
@@ -26,7 +27,7 @@ static struct {
 } box;
 
 static struct {
-    imjarlet_size before, taken, between, size, after;
+    imjarlet_size before, taken, between, size, beside, wrong, after;
 } numbers;
 
 static uint8_t out[64];
@@ -98,22 +99,24 @@ static int is_verdict(const imjarlet_verdict *v, imjarlet_size place, imjarlet_s
 /* The calls, with the numbers that they fill set to EE before. */
 typedef struct {
     uint32_t refusal;
-    imjarlet_size taken, size;
+    imjarlet_size taken, size, wrong;
 } answer;
 
 static answer filled(uint32_t refusal) {
     answer a;
-    check(all(&numbers.before, BEFORE, 8) && all(&numbers.between, BEFORE, 8) && all(&numbers.after, BEFORE, 8),
+    check(all(&numbers.before, BEFORE, 8) && all(&numbers.between, BEFORE, 8) && all(&numbers.beside, BEFORE, 8) &&
+              all(&numbers.after, BEFORE, 8),
           "nothing beside a number is touched");
     a.refusal = refusal;
     a.taken = numbers.taken;
     a.size = numbers.size;
+    a.wrong = numbers.wrong;
     return a;
 }
 
 static answer receive(const uint8_t *input, imjarlet_size n, uint8_t *output, imjarlet_size m) {
     memset(&numbers, BEFORE, sizeof numbers);
-    return filled(imjarlet_receive(&box.c, input, n, output, m, &numbers.taken, &numbers.size));
+    return filled(imjarlet_receive(&box.c, input, n, output, m, &numbers.taken, &numbers.size, &numbers.wrong));
 }
 
 static answer encode(uint8_t cmd1, uint8_t cmd2, const settings *s, uint8_t *output, imjarlet_size m) {
@@ -130,22 +133,29 @@ static void reset(void) {
     check(imjarlet_reset(&box.c) == 0, "a reset returns 0");
 }
 
-/* An answer without a refusal; a response has at least 7 bytes. */
+/* An answer without a refusal; a response has at least 7 bytes. No byte is named. */
 static int waits(answer a, imjarlet_size taken) {
-    return a.refusal == IMJARLET_NO_REFUSAL && a.taken == taken && a.size == 0;
+    return a.refusal == IMJARLET_NO_REFUSAL && a.taken == taken && a.size == 0 && a.wrong == IMJARLET_NO_WRONG_BYTE;
 }
 
 static int answers(answer a, imjarlet_size taken, imjarlet_size n) {
-    return a.refusal == IMJARLET_NO_REFUSAL && a.taken == taken && a.size == n;
+    return a.refusal == IMJARLET_NO_REFUSAL && a.taken == taken && a.size == n && a.wrong == IMJARLET_NO_WRONG_BYTE;
+}
+
+/* An error packet with code 03 alone, and this byte beside it. */
+static int names(answer a, imjarlet_size taken, imjarlet_size byte) {
+    return a.refusal == IMJARLET_NO_REFUSAL && a.taken == taken && a.size == 8 && out[0] == IMJARLET_ERROR &&
+           out[6] == IMJARLET_CODE_VALUE && a.wrong == byte;
 }
 
 static int refuses(answer a, uint32_t refusal) {
-    return a.refusal == refusal && a.taken == 0 && a.size == 0;
+    return a.refusal == refusal && a.taken == 0 && a.size == 0 && a.wrong == IMJARLET_NO_WRONG_BYTE;
 }
 
 /* The encoder and the list have one number. */
 static int emits(answer a, uint32_t refusal, imjarlet_size n) {
-    return a.refusal == refusal && a.size == n && all(&a.taken, BEFORE, sizeof a.taken);
+    return a.refusal == refusal && a.size == n && all(&a.taken, BEFORE, sizeof a.taken) &&
+           all(&a.wrong, BEFORE, sizeof a.wrong);
 }
 
 /* Puts a packet in `packet` and answers its length. */
@@ -168,7 +178,7 @@ static answer send(uint8_t type, uint8_t cmd1, uint8_t cmd2, uint8_t flags, cons
     return receive(packet, length, out, sizeof out);
 }
 
-/* The packet draws an error packet with this code and no other. */
+/* The packet draws an error packet with this code and no other, and no byte is named. */
 static int draws(uint8_t code, uint8_t type, uint8_t cmd1, uint8_t cmd2, uint8_t flags, const void *data, size_t n) {
     return answers(send(type, cmd1, cmd2, flags, data, n), 7 + n, 8) && out[0] == IMJARLET_ERROR &&
            out[1] == cmd1 && out[2] == cmd2 && out[6] == code;
@@ -458,7 +468,7 @@ static void codes_and_lengths(void) {
     settings s = factory();
     reset();
     check(draws(IMJARLET_CODE_COMMAND, IMJARLET_HOST_WRITE, 0x09, 0x09, IMJARLET_WHOLE, NULL, 0), "code 02");
-    check(draws(IMJARLET_CODE_VALUE, IMJARLET_HOST_WRITE, 0x01, 0x01, IMJARLET_WHOLE, "\3", 1), "code 03");
+    check(names(send(IMJARLET_HOST_WRITE, 0x01, 0x01, IMJARLET_WHOLE, "\3", 1), 8, 0), "code 03");
     check(draws(IMJARLET_CODE_MODE, IMJARLET_HOST_WRITE, 0x04, 0x02, IMJARLET_WHOLE, "\1", 1), "code 07");
     check(draws(IMJARLET_CODE_SIZE, IMJARLET_HOST_WRITE, 0x01, 0x01, IMJARLET_WHOLE, "\1\1", 2), "code 0A");
     check(draws(IMJARLET_CODE_ORDER, IMJARLET_HOST_WRITE, 0x01, 0x01, IMJARLET_LAST, "\1", 1), "code 0B");
@@ -481,6 +491,71 @@ static void codes_and_lengths(void) {
     s.run = 1;
     check(emits(standard_list(&s, long_out, IMJARLET_LIST_OUTPUT_LEAST - 1), IMJARLET_SHORT_OUTPUT, 0),
           "list: 1 before 3");
+}
+
+/* Data that are not allowed, and the byte that names the field: the first of the first one, in layout order. */
+static const struct {
+    uint8_t cmd1, cmd2, size, data[17], byte;
+} bad[] = {
+    {0x01, 0x01, 1, {3}, 0},
+    {0x01, 0x03, 1, {14}, 0},
+    {0x01, 0x04, 6, {0x01, 0x04, 0x00, 0x04, 0x00, 0x04}, 0},
+    {0x01, 0x04, 6, {0x00, 0x04, 0x01, 0x04, 0x00, 0x04}, 2},
+    {0x01, 0x04, 6, {0x00, 0x04, 0x00, 0x04, 0x01, 0x04}, 4},
+    {0x01, 0x04, 6, {0x00, 0x04, 0xFF, 0xFF, 0xFF, 0xFF}, 2},
+    {0x01, 0x06, 4, {0xFF, 0xFF, 0xFF, 1}, 3},
+    {0x01, 0x07, 3, {2, 1, 1}, 0},
+    {0x01, 0x07, 3, {1, 2, 2}, 1},
+    {0x01, 0x07, 3, {1, 1, 2}, 2},
+    {0x02, 0x00, 12, {240, 0, 0xE0, 0x01}, 2}, /* 240 and 480 are both in the list */
+    {0x02, 0x00, 12, {1, 0, 0x40, 0x01}, 2},   /* X is in no pair */
+    {0x02, 0x00, 12, {0}, 2},
+    {0x02, 0x01, 3, {16, 9, 5}, 0},
+    {0x02, 0x01, 3, {60, 0, 0}, 1},
+    {0x02, 0x01, 3, {60, 8, 5}, 2},
+    {0x04, 0x00, 17, {0, 97, 3, 7, 0, 0, 0, 0, 0, 0, 0, 0, 0, 0, 0, 0, 3}, 0},
+    {0x04, 0x00, 17, {9, 1}, 0},
+    {0x04, 0x00, 17, {1, 0, 3}, 1},
+    {0x04, 0x00, 17, {4, 25, 1, 6}, 1}, /* 24 at depth 4 */
+    {0x04, 0x00, 17, {1, 96, 3, 7}, 2},
+    {0x04, 0x00, 17, {2, 48, 1, 6}, 2}, /* inverted only at depth 1 */
+    {0x04, 0x00, 17, {8, 12, 0, 6}, 3}, /* trigger 6 only at depth 1 */
+    {0x04, 0x00, 17, {1, 96, 2, 7, 0, 0, 0, 0, 0, 0, 0, 0, 0, 0, 0, 0, 3}, 3},
+    {0x04, 0x00, 17, {1, 96, 2, 6, 255, 255, 255, 255, 255, 255, 255, 255, 255, 255, 255, 255, 3}, 16},
+    {0x04, 0x02, 1, {2}, 0},
+};
+
+/* Each whole, in a transfer that is cut at each place, and with a fault that comes before the values. */
+static void wrong_bytes(void) {
+    settings before = factory();
+    uint8_t more[18];
+    size_t k, cut;
+    reset();
+    for (k = 0; k < sizeof bad / sizeof bad[0]; k++) {
+        const uint8_t c1 = bad[k].cmd1, c2 = bad[k].cmd2, *data = bad[k].data;
+        size_t n = bad[k].size;
+        check(names(send(IMJARLET_HOST_WRITE, c1, c2, IMJARLET_WHOLE, data, n), 7 + n, bad[k].byte), "the wrong byte");
+        for (cut = 0; cut <= n; cut++) {
+            check(answers(send(IMJARLET_HOST_WRITE, c1, c2, IMJARLET_BEGINNING, data, cut), 7 + cut, 7) &&
+                      answers(send(IMJARLET_HOST_WRITE, c1, c2, IMJARLET_INTERMEDIATE, NULL, 0), 7, 7) &&
+                      names(send(IMJARLET_HOST_WRITE, c1, c2, IMJARLET_LAST, data + cut, n - cut), 7 + n - cut,
+                            bad[k].byte),
+                  "the wrong byte of the joined data");
+        }
+        memset(more, 0, sizeof more);
+        memcpy(more, data, n);
+        check(draws(IMJARLET_CODE_SIZE, IMJARLET_HOST_WRITE, c1, c2, IMJARLET_WHOLE, more, n + 1), "no byte with 0A");
+        check(draws(IMJARLET_CODE_ORDER, IMJARLET_HOST_WRITE, c1, c2, IMJARLET_LAST, data, n), "no byte with 0B");
+        make(IMJARLET_HOST_WRITE, c1, c2, IMJARLET_WHOLE, data, n);
+        packet[6 + n]++;
+        check(answers(receive(packet, 7 + n, out, sizeof out), 7 + n, 8) && out[6] == IMJARLET_CODE_CHECKSUM,
+              "no byte with 09");
+        packet[6 + n]--;
+        check(waits(receive(packet, 6 + n, out, sizeof out), 6 + n), "no byte before the packet is complete");
+        check(names(receive(packet + 6 + n, 1, out, sizeof out), 1, bad[k].byte), "the wrong byte with the last byte");
+        check(same_settings(&box.c.settings, &before), "a value that is not allowed is not stored");
+    }
+    check(draws(IMJARLET_CODE_MODE, IMJARLET_HOST_WRITE, 0x04, 0x02, IMJARLET_WHOLE, "\1", 1), "no byte with 07");
 }
 
 /* Reports of two trials: trial 0 scores 9 and sends nothing, trial 1 scores `score` and sends one packet. */
@@ -524,6 +599,8 @@ static int refused(size_t length, uint32_t number, size_t place) {
 
 static void reports(void) {
     static const uint8_t red[13] = {2, 1, 4, 0, 6, 0, 0x2C, 1, 0x12, 1, 0x12, 1, 0x60};
+    static const uint8_t begun[7] = {2, 1, 3, 1, 0, 0, 7}; /* opens a transfer of 01 03 */
+    uint8_t ship[33];
     settings ends = factory();
     size_t n;
     n = make_report(1, 2, 7, 1, red, 13);
@@ -544,7 +621,21 @@ static void reports(void) {
     n = make_report(1, 2, 7, 0, red, 13);
     check(refused(n, IMJARLET_REPORT_NOT_LOWEST, 37), "refusal 17");
     n = make_report(1, 2, 7, 1, red, 12);
-    check(refused(n, IMJARLET_REPORT_NOT_ACKNOWLEDGED, 43), "refusal 18");
+    check(refused(n, IMJARLET_REPORT_NOT_ACKNOWLEDGED, 47), "refusal 18: an unfinished packet");
+    memcpy(ship, red, 13);
+    memcpy(ship + 13, red, 13);
+    memcpy(ship + 26, begun, 7);
+    n = make_report(1, 2, 7, 1, ship, 33);
+    check(refused(n, IMJARLET_REPORT_NOT_ACKNOWLEDGED, 47 + 26), "refusal 18: a transfer left open");
+    memcpy(ship + 13, begun, 7);
+    memcpy(ship + 20, red, 13);
+    n = make_report(1, 2, 7, 1, ship, 32);
+    check(refused(n, IMJARLET_REPORT_NOT_ACKNOWLEDGED, 47 + 13), "refusal 18: the transfer, and an unfinished packet");
+    n = make_report(1, 2, 7, 1, ship, 33);
+    check(refused(n, IMJARLET_REPORT_NOT_ACKNOWLEDGED, 47 + 20), "refusal 18: an error that closed the transfer");
+    ship[12]++;
+    n = make_report(1, 2, 7, 1, ship, 32);
+    check(refused(n, IMJARLET_REPORT_NOT_ACKNOWLEDGED, 47), "refusal 18: the earliest");
     n = make_report(1, 2, 7, 1, red, 0);
     check(refused(n, IMJARLET_REPORT_OTHER_SETTINGS, 43), "refusal 19");
     record_at(0, 1, "\1\0\1", 3);
@@ -556,6 +647,7 @@ static void reports(void) {
 
 int main(void) {
     LAYOUT(PRINT_SIZE, PRINT_OFFSET, NOTHING)
+    printf("no_wrong_byte %" PRIu64 "\n", IMJARLET_NO_WRONG_BYTE);
     fresh();
     every_setting();
     out_of_rule();
@@ -564,6 +656,7 @@ int main(void) {
     full_arrays();
     longest();
     codes_and_lengths();
+    wrong_bytes();
     reports();
     check(strips_untouched(), "nothing beside what is lent is touched");
     fprintf(stderr, "layout.c: %u checks, %u failed\n", checks, failures);

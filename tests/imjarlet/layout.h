@@ -1,6 +1,6 @@
 /*
- * Every size and offset of include/imjarlet.h, asserted when this is compiled: also for a target on
- * which nothing can be run, by
+ * Every size and offset of include/imjarlet.h, and that the number for no wrong byte has 64 bits, asserted
+ * when this is compiled: also for a target on which nothing can be run, by
  *     cc -std=c99 -ffreestanding -fsyntax-only -Iinclude -x c tests/imjarlet/layout.h
  */
 #ifndef IMJARLET_LAYOUT_H
@@ -41,5 +41,8 @@
 
 #define OF(type) imjarlet_##type
 #include "../layout/asserts.h"
+
+typedef char size_of_no_wrong_byte[sizeof(IMJARLET_NO_WRONG_BYTE) == 8 ? 1 : -1];
+typedef char no_wrong_byte[IMJARLET_NO_WRONG_BYTE == 0xFFFFFFFFFFFFFFFFu ? 1 : -1];
 
 #endif

@@ -93,8 +93,36 @@ fn filled() {
     assert_eq!(bytes[0], bytes[1]);
 }
 
+/// The wrong byte of a packet that draws 03, whole and in a transfer, and none with any other response; and
+/// what the library's own call says for none, where it waits and where it refuses.
+fn wrong_bytes(head: &mut Controller) {
+    let mut out = [0xA5u8; OUTPUT_LEAST];
+    let mut answers = |packet: &[u8], length, wrong| {
+        let taken = packet.len();
+        assert_eq!(head.receive(packet, &mut out), Ok(Answer::Answered { taken, length, wrong }));
+    };
+    // 01 04 with green 1025, with another checksum, and with a byte too many
+    answers(&[2, 1, 4, 0, 6, 0, 0, 4, 1, 4, 0, 4, 0x1A], 8, Some(2));
+    answers(&[2, 1, 4, 0, 6, 0, 0, 4, 1, 4, 0, 4, 0x1B], 8, None);
+    answers(&[2, 1, 4, 0, 7, 0, 0, 4, 1, 4, 0, 4, 0, 0x1B], 8, None);
+    // 01 04 with blue 1025, in two packets that cut it
+    answers(&[2, 1, 4, 1, 5, 0, 0, 4, 0, 4, 1, 0x16], 7, None);
+    answers(&[2, 1, 4, 3, 1, 0, 4, 0x0F], 8, Some(4));
+    // a read
+    answers(&[4, 1, 3, 0, 0, 0, 8], 8, None);
+
+    for (room, refusal, taken) in [(64, 0, 1), (63, 1, 0)] {
+        let mut numbers = [5; 3];
+        let [a, b, c] = &mut numbers;
+        let number = unsafe { raw::imjarlet_receive(head, [2].as_ptr(), 1, out.as_mut_ptr(), room, a, b, c) };
+        assert_eq!((number, numbers), (refusal, [taken, 0, raw::NO_WRONG_BYTE]));
+    }
+    head.reset();
+}
+
 fn main() {
     print_layout();
+    println!("no_wrong_byte {}", raw::NO_WRONG_BYTE);
     filled();
     let mut head = Controller::fresh();
     let fresh = head.clone();
@@ -109,7 +137,7 @@ fn main() {
     let mut at = 0;
     while at < LIST_LENGTH {
         match head.receive(&list[at..LIST_LENGTH], &mut out).unwrap() {
-            Answer::Answered { taken, length: 7 } => at += taken,
+            Answer::Answered { taken, length: 7, wrong: None } => at += taken,
             other => panic!("{other:?}"),
         }
     }
@@ -117,10 +145,12 @@ fn main() {
     head.reset();
     assert_eq!(head, fresh);
     for (i, byte) in list[..8].iter().enumerate() {
-        let expected = if i < 7 { Answer::Waiting { taken: 1 } } else { Answer::Answered { taken: 1, length: 7 } };
+        let answered = Answer::Answered { taken: 1, length: 7, wrong: None };
+        let expected = if i < 7 { Answer::Waiting { taken: 1 } } else { answered };
         assert_eq!(head.receive(&[*byte], &mut out), Ok(expected));
     }
     assert_eq!(head.receive(&[], &mut out), Ok(Answer::Waiting { taken: 0 }));
+    wrong_bytes(&mut head);
 
     // every refusal
     assert_eq!(head.receive(&list, &mut out[..OUTPUT_LEAST - 1]), Err(Refusal::ShortOutput));
