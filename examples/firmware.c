@@ -13,15 +13,18 @@ static imjarlet_controller head;
 
 void serve(void) {
     uint8_t byte, out[IMJARLET_OUTPUT_LEAST];
-    imjarlet_size taken, size, i;
+    imjarlet_size taken, size, wrong, i;
     PORT[DIVIDER] = FASTEST;
     PORT[CONTROL] = IN_AND_OUT;
     imjarlet_reset(&head);
     for (;;) {
         while (!(PORT[STATE] & IN_FULL)) {}
         byte = (uint8_t)PORT[DATA];
-        /* Refused is only a controller that other code has written to. */
-        if (imjarlet_receive(&head, &byte, 1, out, sizeof out, &taken, &size)) imjarlet_reset(&head);
+        /*
+         * Refused is only a controller that other code has written to. The wrong byte is not sent: a
+         * response has no room for it.
+         */
+        if (imjarlet_receive(&head, &byte, 1, out, sizeof out, &taken, &size, &wrong)) imjarlet_reset(&head);
         for (i = 0; i < size; i++) {
             while (PORT[STATE] & OUT_FULL) {}
             PORT[DATA] = out[i];

@@ -11,5 +11,9 @@ fn main() -> Result<(), Refusal> {
     let answer = head.receive(&packet[..length], &mut response)?;
     let red = head.settings.current.red;
     println!("{answer:?}, response type {:02x}, red {red:?}", response[0]);
+    packet[9] += 4; // green 1298 counts, which is not allowed
+    packet[12] += 4; // the checksum of that
+    let answer = head.receive(&packet[..length], &mut response)?;
+    println!("{answer:?}, response type {:02x}, code {:02x}", response[0], response[6]);
     Ok(())
 }
