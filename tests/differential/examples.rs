@@ -1,7 +1,8 @@
 //! Document 01's own packets and reports, each for a fresh factory controller: the library and the
-//! model must both give what the paper prints.
+//! model must both give what the paper prints. And request 4: the byte that both must name, field by field,
+//! and the place of refusal 18.
 
-use super::{ffi, model};
+use super::{ffi, generate, model};
 
 /// Packets, and the responses to all of them.
 const PACKETS: [(&str, &str); 9] = [
@@ -36,34 +37,77 @@ fn bytes(hex: &str) -> Vec<u8> {
         .collect()
 }
 
-/// Both sides' responses to a stream.
-fn responses(stream: &[u8]) -> [Vec<u8>; 2] {
+/// What a stream draws: the responses, one behind the other, and with each packet the byte that is named.
+#[derive(Default)]
+struct Drawn {
+    responses: Vec<u8>,
+    bytes: Vec<u64>,
+}
+
+/// What both sides give, the library first.
+fn draw(stream: &[u8]) -> [Drawn; 2] {
     let mut theirs = ffi::Controller::fresh();
     let mut ours = model::Controller::default();
-    let mut all = [Vec::new(), Vec::new()];
+    let mut all = <[Drawn; 2]>::default();
     let mut out = [0; 64];
     let mut rest = stream;
     while !rest.is_empty() {
-        let (mut taken, mut size) = (0, 0);
-        if ffi::receive(&mut theirs, rest, &mut out, &mut taken, &mut size) != 0 || taken == 0 {
+        let (mut taken, mut size, mut wrong) = (0, 0, 0);
+        let numbers = (&mut taken, &mut size, &mut wrong);
+        let refusal = ffi::receive(&mut theirs, rest, &mut out, numbers.0, numbers.1, numbers.2);
+        if refusal != 0 || taken == 0 {
             break;
         }
-        all[0].extend(&out[..size as usize]);
+        all[0].responses.extend(&out[..size as usize]);
+        all[0].bytes.push(wrong);
         rest = &rest[taken as usize..];
     }
     let mut rest = stream;
-    while let Ok(model::Progress::Answered { taken, length }) = ours.receive(rest, &mut out) {
-        all[1].extend(&out[..length]);
+    while let Ok(model::Progress::Answered {
+        taken,
+        length,
+        wrong,
+    }) = ours.receive(rest, &mut out)
+    {
+        let byte = wrong.map_or(ffi::NO_WRONG_BYTE, |at| at as u64);
+        all[1].responses.extend(&out[..length]);
+        all[1].bytes.push(byte);
         rest = &rest[taken..];
     }
     all
 }
 
-/// What is not as the paper prints it.
-pub fn wrong() -> Vec<String> {
+/// What is named otherwise than by the field's first byte: whole, and in a transfer, cut at each place.
+fn wrong_bytes() -> Vec<String> {
     let mut wrong = Vec::new();
+    for (command, data, byte) in generate::every_fault() {
+        let cmd = command.bytes();
+        let whole = (generate::packet(2, cmd, 0, &data), vec![byte as u64]);
+        let cuts = (0..=data.len()).map(|cut| {
+            let parts = [
+                generate::packet(2, cmd, 1, &data[..cut]),
+                generate::packet(2, cmd, 3, &data[cut..]),
+            ];
+            (parts.concat(), vec![ffi::NO_WRONG_BYTE, byte as u64])
+        });
+        for (stream, wanted) in [whole].into_iter().chain(cuts) {
+            for (side, Drawn { bytes, .. }) in ["library", "model"].iter().zip(draw(&stream)) {
+                if bytes != wanted {
+                    let what = format!("{side}, {stream:02X?}: bytes {bytes:?}, not {wanted:?}");
+                    wrong.push(what);
+                }
+            }
+        }
+    }
+    wrong
+}
+
+/// What is not as the papers have it.
+pub fn wrong() -> Vec<String> {
+    let mut wrong = wrong_bytes();
     let mut stream = |name: &str, input: &[u8], wanted: Vec<u8>| {
-        for (side, got) in ["library", "model"].iter().zip(responses(input)) {
+        for (side, drawn) in ["library", "model"].iter().zip(draw(input)) {
+            let got = drawn.responses;
             if got != wanted {
                 wrong.push(format!("{side}, {name}: {got:02X?}, not {wanted:02X?}"));
             }
@@ -84,10 +128,21 @@ pub fn wrong() -> Vec<String> {
     }
     let both = " 10 00 04 00 02 01 03 00 01 00 03 0A 02 01 01 00 01 00 01 06";
     let own = " 08 00 04 00 02 01 01 00 01 00 01 06";
+    // The second packet unfinished; a good one, one that opens a transfer, and a byte; the same with a whole
+    // packet in that byte's place, which closes the transfer by an error; test pattern 14, a read and a byte.
+    let unfinished = " 0F 00 04 00 02 01 03 00 01 00 03 0A 02 01 01 00 01 00 01";
+    let left_open = " 10 00 04 00 02 01 03 00 01 00 03 0A 02 01 03 01 00 00 07 02";
+    let closed =
+        " 17 00 04 00 02 01 03 00 01 00 03 0A 02 01 03 01 00 00 07 02 01 01 00 01 00 01 06";
+    let several = " 10 00 04 00 02 01 03 00 01 00 0E 15 04 01 01 00 00 00 06 02";
     let reports = [
         (TRIALS.to_string() + both, (0, 0, 1, 7)),
         (TRIALS.to_string() + own, (19, 46, 0, 0)),
         (String::new(), (11, 0, 0, 0)),
+        (TRIALS.to_string() + unfinished, (18, 58, 0, 0)),
+        (TRIALS.to_string() + left_open, (18, 58, 0, 0)),
+        (TRIALS.to_string() + closed, (18, 65, 0, 0)),
+        (TRIALS.to_string() + several, (18, 50, 0, 0)),
     ];
     for (report, wanted) in reports {
         let report = bytes(&report);

@@ -12,7 +12,10 @@ use imjarlet::{
     raw, DisplaySetting, Drive, LedCurrent, Microseconds, PatternSequence, StaticColour,
     VideoInput, VideoMode,
 };
-pub use imjarlet::{raw::Verdict, Controller, Registers, Settings};
+pub use imjarlet::{
+    raw::{Verdict, NO_WRONG_BYTE},
+    Controller, Registers, Settings,
+};
 use std::mem::transmute;
 
 /// What stands where a call is to fill something in: EE in every byte.
@@ -32,10 +35,11 @@ pub fn receive(
     out: &mut [u8],
     taken: &mut u64,
     size: &mut u64,
+    wrong: &mut u64,
 ) -> u32 {
     let (input, from) = (input.as_ptr(), input.len() as u64);
     let (out, to) = (out.as_mut_ptr(), out.len() as u64);
-    unsafe { raw::imjarlet_receive(c, input, from, out, to, taken, size) }
+    unsafe { raw::imjarlet_receive(c, input, from, out, to, taken, size, wrong) }
 }
 
 #[inline]
@@ -60,6 +64,7 @@ pub struct Receipt {
     pub refusal: u32,
     pub taken: u64,
     pub size: u64,
+    pub wrong: u64,
 }
 
 /// What the encoder and the standard list do.
@@ -209,16 +214,25 @@ impl From<&model::Controller> for Controller {
 impl From<Result<model::Progress, model::Refusal>> for Receipt {
     fn from(answer: Result<model::Progress, model::Refusal>) -> Receipt {
         use model::Progress::*;
-        let left = |fault| if model::planted(fault) { UNSET } else { 0 };
-        let (refusal, taken, size) = match answer {
-            Ok(Waiting { taken }) => (0, taken as u64, left(27)),
-            Ok(Answered { taken, length }) => (0, taken as u64, length as u64),
-            Err(refusal) => (refusal as u32, left(26), left(26)),
+        let left = |fault, right| if model::planted(fault) { UNSET } else { right };
+        let none = if model::planted(45) { 0 } else { NO_WRONG_BYTE };
+        let (refusal, taken, size, wrong) = match answer {
+            Ok(Waiting { taken }) => (0, taken as u64, left(27, 0), left(47, none)),
+            Ok(Answered {
+                taken,
+                length,
+                wrong,
+            }) => {
+                let wrong = wrong.map_or(left(48, none), |at| at as u64);
+                (0, taken as u64, length as u64, wrong)
+            }
+            Err(refusal) => (refusal as u32, left(26, 0), left(26, 0), left(46, none)),
         };
         Receipt {
             refusal,
             taken,
             size,
+            wrong,
         }
     }
 }

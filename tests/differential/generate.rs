@@ -81,6 +81,72 @@ fn most_patterns(depth: u8) -> u8 {
     MOST[usize::from(depth.clamp(1, 8)) - 1]
 }
 
+/// A field that a rule is about: its command, the byte that names it, and values that it does not allow
+/// whatever the others hold, with the place that they are put at.
+pub struct Field {
+    pub command: Command,
+    pub byte: usize,
+    at: usize,
+    wrong: &'static [&'static [u8]],
+}
+
+const fn field(command: Command, byte: usize, wrong: &'static [&'static [u8]]) -> Field {
+    Field {
+        command,
+        byte,
+        at: byte,
+        wrong,
+    }
+}
+
+const DRIVES: &[&[u8]] = &[&[1, 4], &[0, 5], &[0, 8], &[255, 255]];
+const SWITCHES: &[&[u8]] = &[&[2], &[3], &[255]];
+
+/// In table order, and those of a command in layout order. X and Y have one rule, which is Y's: 1 x 320,
+/// 240 x 480, 608 x 685, 684 x 608 and 0 x 0.
+pub const FIELDS: [Field; 19] = [
+    field(Command::Mode, 0, &[&[3], &[5], &[255]]),
+    field(Command::Pattern, 0, &[&[14], &[255]]),
+    field(Command::Current, 0, DRIVES),
+    field(Command::Current, 2, DRIVES),
+    field(Command::Current, 4, DRIVES),
+    field(Command::Colour, 3, &[&[1], &[255]]),
+    field(Command::Display, 0, SWITCHES),
+    field(Command::Display, 1, SWITCHES),
+    field(Command::Display, 2, SWITCHES),
+    Field {
+        command: Command::Input,
+        byte: 2,
+        at: 0,
+        wrong: &[
+            &[1, 0, 0x40, 1],
+            &[240, 0, 0xE0, 1],
+            &[0x60, 2, 0xAD, 2],
+            &[0xAC, 2, 0x60, 2],
+            &[0, 0, 0, 0],
+        ],
+    },
+    field(Command::Video, 0, &[&[0], &[14], &[16], &[61]]),
+    field(Command::Video, 1, &[&[0], &[9], &[255]]),
+    field(Command::Video, 2, &[&[0], &[5], &[255]]),
+    field(Command::Sequence, 0, &[&[0], &[9], &[255]]),
+    field(Command::Sequence, 1, &[&[0], &[97], &[255]]),
+    field(Command::Sequence, 2, &[&[3], &[255]]),
+    field(Command::Sequence, 3, &[&[7], &[255]]),
+    field(Command::Sequence, 16, &[&[3], &[255]]),
+    field(Command::Run, 0, &[&[2], &[255]]),
+];
+
+impl Field {
+    pub fn of(command: Command) -> impl Iterator<Item = &'static Field> {
+        FIELDS.iter().filter(move |field| field.command == command)
+    }
+
+    fn put(&self, value: &[u8], data: &mut [u8]) {
+        data[self.at..][..value.len()].copy_from_slice(value);
+    }
+}
+
 fn command(rng: &mut Rng) -> Command {
     rng.pick(&Command::ALL)
 }
@@ -133,6 +199,36 @@ fn allowed(rng: &mut Rng, command: Command) -> Vec<u8> {
         }
         Command::Run => vec![rng.below(2) as u8],
     }
+}
+
+/// Data that a command does not allow: each field is the first wrong one as often as another, and so are
+/// the three of a sequence that its depth alone does not allow; others behind it may be wrong too.
+fn not_allowed(rng: &mut Rng) -> (Command, Vec<u8>) {
+    let Some(first) = FIELDS.get(rng.below(FIELDS.len() + 3)) else {
+        return (Command::Sequence, not_at_this_depth(rng));
+    };
+    let mut data = allowed(rng, first.command);
+    first.put(rng.pick(first.wrong), &mut data);
+    let more = rng.one_in(2);
+    for field in Field::of(first.command).filter(|field| field.byte > first.byte) {
+        if more && rng.one_in(2) {
+            field.put(rng.pick(field.wrong), &mut data);
+        }
+    }
+    (first.command, data)
+}
+
+fn not_at_this_depth(rng: &mut Rng) -> Vec<u8> {
+    let mut data = allowed(rng, Command::Sequence);
+    let depth = 2 + rng.below(7) as u8;
+    let most = most_patterns(depth);
+    data[..4].copy_from_slice(&[depth, 1 + rng.below(most as usize) as u8, 0, 5]);
+    match rng.below(3) {
+        0 => data[1] = most + 1,
+        1 => data[2] = 1 + rng.below(2) as u8,
+        _ => data[3] = 6,
+    }
+    data
 }
 
 /// Data of the command's size that are hardly allowed or not: limits passed by a little, a byte
@@ -305,6 +401,41 @@ fn faulty(rng: &mut Rng, longest: usize) -> Vec<u8> {
     bytes
 }
 
+/// A write of values that are not allowed, now and then with a fault that comes before the values.
+fn misvalued(rng: &mut Rng) -> Vec<u8> {
+    let (command, mut data) = not_allowed(rng);
+    let (mut kind, mut flags) = (2, 0);
+    let fault = rng.below(8);
+    match fault {
+        0 => data.push(rng.byte()),
+        1 => {
+            data.pop();
+        }
+        2 => flags = rng.pick(&[2, 3, 4]),
+        3 => kind = rng.pick(&[4, 0, 3, 5]),
+        _ => {}
+    }
+    let mut bytes = packet(kind, command.bytes(), flags, &data);
+    if fault == 4 {
+        spoil(rng, &mut bytes);
+    }
+    bytes
+}
+
+/// The same in a transfer of two packets or three.
+fn misvalued_transfer(rng: &mut Rng) -> Vec<Vec<u8>> {
+    let (command, data) = not_allowed(rng);
+    let cmd = command.bytes();
+    let (first, last) = data.split_at(rng.below(data.len() + 1));
+    let mut parts = vec![packet(2, cmd, 1, first), packet(2, cmd, 3, last)];
+    if rng.one_in(2) {
+        let (middle, last) = last.split_at(rng.below(last.len() + 1));
+        parts.pop();
+        parts.extend([packet(2, cmd, 2, middle), packet(2, cmd, 3, last)]);
+    }
+    parts
+}
+
 /// Another checksum: off by one, by a bit, anything, or a sum of other bytes.
 fn spoil(rng: &mut Rng, bytes: &mut Vec<u8>) {
     let last = bytes.len() - 1;
@@ -411,7 +542,7 @@ fn transfer(rng: &mut Rng, parts: &mut Vec<Vec<u8>>) {
 
 /// One packet or the packets of one transfer.
 pub fn some_packets(rng: &mut Rng, parts: &mut Vec<Vec<u8>>, longest: usize) {
-    match rng.below(64) {
+    match rng.below(72) {
         0..=15 => parts.push(write(rng)),
         16..=23 => {
             let command = command(rng);
@@ -439,6 +570,8 @@ pub fn some_packets(rng: &mut Rng, parts: &mut Vec<Vec<u8>>, longest: usize) {
             bytes[5] = rng.pick(&[0, 0, 0, 1]);
             parts.push(bytes);
         }
+        51..=54 => parts.push(misvalued(rng)),
+        55..=58 => parts.extend(misvalued_transfer(rng)),
         _ => parts.push(faulty(rng, longest)),
     }
 }
@@ -485,6 +618,45 @@ pub fn every_value() -> Vec<(Command, Vec<u8>)> {
         for count in 0..=255 {
             let data = [vec![depth, count], vec![0; 15]].concat();
             all.push((Command::Sequence, data));
+        }
+    }
+    all
+}
+
+/// Data that are not allowed, and the byte that names what is wrong: of every command each of its fields
+/// and each set of them, the others at the factory's; and of sequences, at each depth from 2 on, a count
+/// past its limit, an inversion and trigger 6, which the depth alone does not allow, and the LED.
+pub fn every_fault() -> Vec<(Command, Vec<u8>, usize)> {
+    let mut all = Vec::new();
+    for command in Command::ALL {
+        let fields: Vec<&Field> = Field::of(command).collect();
+        let turns = fields.iter().map(|field| field.wrong.len()).max();
+        for set in 1..1 << fields.len() {
+            let holds = |k: usize| set >> k & 1 == 1;
+            let wrong: Vec<&Field> = (0..fields.len())
+                .filter(|&k| holds(k))
+                .map(|k| fields[k])
+                .collect();
+            for turn in 0..turns.unwrap_or(0) {
+                let mut data = Settings::FACTORY.get(command).to_vec();
+                for field in &wrong {
+                    field.put(field.wrong[turn % field.wrong.len()], &mut data);
+                }
+                all.push((command, data, wrong[0].byte));
+            }
+        }
+    }
+    for depth in 2..=8 {
+        for set in 1u32..16 {
+            let holds = |k: u32| (set >> k & 1) as u8;
+            let mut data = vec![255; 17];
+            data[0] = depth;
+            data[1] = most_patterns(depth) + holds(0);
+            data[2] = holds(1) * (1 + depth % 2);
+            data[3] = 5 + holds(2);
+            data[16] = 2 + holds(3);
+            let byte = [1, 2, 3, 16][set.trailing_zeros() as usize];
+            all.push((Command::Sequence, data, byte));
         }
     }
     all
@@ -840,6 +1012,81 @@ fn named_right(rng: &mut Rng) -> Report {
     report
 }
 
+/// The packets that bytes are cut into, and what is left.
+pub fn packets(bytes: &[u8]) -> Vec<Vec<u8>> {
+    let mut parts = Vec::new();
+    let mut rest = bytes;
+    while rest.len() >= 7 {
+        let length = 7 + u16::from_le_bytes([rest[4], rest[5]]) as usize;
+        if rest.len() < length {
+            break;
+        }
+        parts.push(rest[..length].to_vec());
+        rest = &rest[length..];
+    }
+    if !rest.is_empty() {
+        parts.push(rest.to_vec());
+    }
+    parts
+}
+
+/// Something to ship beside the list: a packet that is not acknowledged, a transfer that is carried out,
+/// or one that an error closes.
+fn beside_the_list(rng: &mut Rng) -> Vec<u8> {
+    let command = command(rng);
+    let cmd = command.bytes();
+    let data = allowed(rng, command);
+    let (first, last) = data.split_at(rng.below(data.len() + 1));
+    let begin = packet(2, cmd, 1, first);
+    match rng.below(7) {
+        0 => packet(4, cmd, 0, &[]),
+        1 => misvalued(rng),
+        2 => faulty(rng, 40),
+        3 | 4 => [begin, packet(2, cmd, 3, last)].concat(),
+        5 => misvalued_transfer(rng).concat(),
+        _ => {
+            let end = match rng.below(3) {
+                0 => packet(4, cmd, 0, &[]),
+                1 => write(rng),
+                _ => misvalued(rng),
+            };
+            [begin, end].concat()
+        }
+    }
+}
+
+/// Ships the list with faults among its packets, and perhaps with a transfer left open and an unfinished
+/// packet at its end: several places, of which refusal 18 has to name the earliest.
+fn offend(rng: &mut Rng, report: &mut Report) {
+    report.ship_standard_list();
+    let mut parts = packets(&report.shipping);
+    if rng.one_in(2) {
+        parts.truncate(rng.below(parts.len() + 1));
+    }
+    for _ in 0..rng.pick(&[0, 0, 1, 1, 2, 3]) {
+        let at = rng.below(parts.len() + 1);
+        parts.insert(at, beside_the_list(rng));
+    }
+    if rng.one_in(2) {
+        let cmd = command(rng).bytes();
+        for n in 0..1 + rng.below(3) {
+            let length = rng.below(4);
+            parts.push(packet(
+                2,
+                cmd,
+                if n == 0 { 1 } else { 2 },
+                &rng.bytes(length),
+            ));
+        }
+    }
+    if rng.one_in(2) {
+        let mut half = write(rng);
+        half.truncate(1 + rng.below(half.len() - 1));
+        parts.push(half);
+    }
+    report.shipping = parts.concat();
+}
+
 /// Shipping packets: the standard list, other lists with the same settings, and wrong ones.
 fn ship(rng: &mut Rng, report: &mut Report) {
     report.ship_standard_list();
@@ -1016,6 +1263,10 @@ pub fn report(rng: &mut Rng) -> Vec<u8> {
                 .unwrap_or(0),
             _ => rng.below(report.trials.len()),
         };
+    }
+    if rng.one_in(5) {
+        offend(rng, &mut report);
+        return report.bytes();
     }
     ship(rng, &mut report);
     let mut bytes = report.bytes();

@@ -17,7 +17,7 @@ mod model;
 
 use ffi::{Emitted, Judged, Receipt, Wide};
 use generate::{Report, Rng};
-use model::{Command, Controller, Settings, Transfer};
+use model::{Command, Controller, Progress, Settings, Transfer};
 use std::fmt::Write;
 
 const USAGE: &str = "usage: differential [N] [SEED] [--plant K] [--exact]
@@ -56,6 +56,71 @@ struct Tally {
     /// Payloads of 1,024, of 1,025 and of 65,535 bytes.
     long: [u64; 3],
     resets: u64,
+    values: Values,
+    /// Reports that were refused with 18, by what their shipping bytes have.
+    offences: [u64; OFFENCES.len()],
+}
+
+/// Packets with a value that is not allowed.
+#[derive(Default)]
+struct Values {
+    /// By the byte that was named with code 03, for each command: in a whole packet, and in a transfer.
+    named: [[[u64; 17]; 9]; 2],
+    /// Those in which another field behind that one is not allowed either.
+    several: [u64; 9],
+    /// Those that drew other codes, with which no byte is named, by these.
+    beside: [u64; 16],
+}
+
+/// What shipping bytes may have that refusal 18 is about.
+const OFFENCES: [&str; 10] = [
+    "a packet that is not acknowledged behind good ones",
+    "two packets that are not acknowledged",
+    "a read before any other fault",
+    "an error that closes a transfer, before any other fault",
+    "an unfinished packet behind one that is not acknowledged",
+    "a transfer left open behind a packet that is not acknowledged",
+    "an unfinished packet alone",
+    "a transfer left open alone",
+    "a transfer left open and an unfinished packet",
+    "a transfer left open behind one that was carried out",
+];
+
+fn offences(shipping: &[u8]) -> [bool; OFFENCES.len()] {
+    let mut c = Controller::default();
+    let mut out = [0; 64];
+    let mut rest = shipping;
+    let (mut good, mut bad, mut carried_out) = (0, 0, 0);
+    let (mut good_first, mut read_first, mut closed_first) = (false, false, false);
+    let mut open = false;
+    while let Ok(Progress::Answered { taken, .. }) = c.receive(rest, &mut out) {
+        if out[0] == 3 {
+            good += 1;
+            carried_out += (rest[3] == 3) as u64;
+        } else {
+            if bad == 0 {
+                good_first = good > 0;
+                read_first = out[0] == 5;
+                closed_first = open;
+            }
+            bad += 1;
+        }
+        open = c.state.transfer.open();
+        rest = &rest[taken..];
+    }
+    let half = !rest.is_empty();
+    [
+        bad > 0 && good_first,
+        bad > 1,
+        read_first,
+        closed_first,
+        bad > 0 && half,
+        bad > 0 && open,
+        bad == 0 && half && !open,
+        bad == 0 && open && !half,
+        bad == 0 && open && half,
+        open && carried_out > 0,
+    ]
 }
 
 /// A stream of bytes for one controller: the cuts and the output lengths are used in turn.
@@ -174,13 +239,19 @@ impl Harness {
         out: &mut [u8],
     ) -> Result<Receipt, String> {
         let (filled, taken) = self.fill(ffi::UNSET, |taken| {
-            self.fill(ffi::UNSET, |size| ffi::receive(c, input, out, taken, size))
+            self.fill(ffi::UNSET, |size| {
+                self.fill(ffi::UNSET, |wrong| {
+                    ffi::receive(c, input, out, taken, size, wrong)
+                })
+            })
         })?;
-        let (refusal, size) = filled?;
+        let (filled, size) = filled?;
+        let (refusal, wrong) = filled?;
         Ok(Receipt {
             refusal,
             taken,
             size,
+            wrong,
         })
     }
 
@@ -285,6 +356,12 @@ impl Harness {
                 }
                 self.tally.reports += 1;
                 self.tally.verdicts[refusal as usize] += 1;
+                if let (18, Some(report)) = (refusal, Report::parse(bytes)) {
+                    let had = offences(&report.shipping);
+                    for (count, had) in self.tally.offences.iter_mut().zip(had) {
+                        *count += had as u64;
+                    }
+                }
                 Ok(())
             }
         }
@@ -319,6 +396,7 @@ impl Harness {
             } else {
                 Box::default()
             };
+            let held = ours.state.transfer.held;
             let (answer, out) = self
                 .lend(
                     length,
@@ -333,6 +411,9 @@ impl Harness {
                 ));
             }
             self.note(cut, &answer, &out);
+            if answer.size > 0 {
+                self.tally.values.note(&ours, held, &answer, &out);
+            }
             at += answer.taken as usize;
             idle = if answer.taken == 0 { idle + 1 } else { 0 };
             // Nothing more comes of the end of the input, nor of a controller that is refused.
@@ -374,6 +455,37 @@ impl Harness {
             }
             3 => tally.written += 1,
             _ => tally.read += 1,
+        }
+    }
+}
+
+impl Values {
+    /// Notes the packet that this controller has just answered; `held` bytes of a transfer were held
+    /// before it.
+    fn note(&mut self, c: &Controller, held: usize, answer: &Receipt, out: &[u8]) {
+        let [_, cmd1, cmd2, flags, low, high] = c.header;
+        let Some(command) = Command::from_bytes(cmd1, cmd2) else {
+            return;
+        };
+        let length = u16::from_le_bytes([low, high]) as usize;
+        let joins = flags == 3;
+        let held = &c.state.buffer[..if joins { held } else { 0 }];
+        let data = [held, &c.hold[..length.min(model::HOLD)]].concat();
+        let mut wrong = 0;
+        if let Some(data) = data.get(..command.size()) {
+            let _ = command.fields(data, |_, allowed| {
+                wrong += !allowed as usize;
+                Ok::<_, ()>(())
+            });
+        }
+        let place = command as usize;
+        if answer.wrong != ffi::NO_WRONG_BYTE {
+            self.named[joins as usize][place][answer.wrong as usize] += 1;
+            self.several[place] += (wrong > 1) as u64;
+        } else if wrong > 0 && out[0] == 1 {
+            for &code in &out[6..answer.size as usize - 1] {
+                self.beside[code as usize % 16] += 1;
+            }
         }
     }
 }
@@ -496,7 +608,8 @@ fn single(bytes: Vec<u8>, out: usize) -> Case {
     }))
 }
 
-/// What is few enough to try all of: output lengths, commands, types, flags and single values.
+/// What is few enough to try all of: output lengths, commands, types, flags, single values and the fields
+/// that are not allowed.
 fn swept() -> impl Iterator<Item = Case> {
     let factory = Settings::FACTORY;
     let lengths = (0..=130).flat_map(move |out| {
@@ -569,6 +682,36 @@ fn swept() -> impl Iterator<Item = Case> {
                 single(write, 64),
                 start,
             ]
+        });
+    // Every set of fields that are not allowed: whole, with a good packet behind it and half a one, in a
+    // transfer cut at each place, and with faults that come before the values.
+    let faults = generate::every_fault()
+        .into_iter()
+        .flat_map(|(command, data, _)| {
+            let cmd = command.bytes();
+            let packet = |kind, flags, data: &[u8]| generate::packet(kind, cmd, flags, data);
+            let whole = packet(2, 0, &data);
+            let good = packet(2, 0, Settings::FACTORY.get(command));
+            let mut other_sum = whole.clone();
+            other_sum[6 + data.len()] ^= 0x40;
+            let mut streams = vec![
+                [&whole[..], &good[..], &whole[..5]].concat(),
+                other_sum,
+                packet(2, 0, &[&data[..], &[0]].concat()),
+                packet(2, 0, &data[1..]),
+                packet(2, 3, &data),
+                packet(2, 4, &data),
+                packet(3, 0, &data),
+                packet(4, 0, &data),
+                [packet(2, 1, &data), whole].concat(),
+                [packet(2, 1, &data), packet(2, 3, &[0])].concat(),
+            ];
+            for cut in 0..=data.len() {
+                let (first, last) = data.split_at(cut);
+                streams.push([packet(2, 1, first), packet(2, 3, last)].concat());
+                streams.push([packet(2, 1, first), packet(2, 2, last), packet(2, 3, &[])].concat());
+            }
+            streams.into_iter().map(|bytes| single(bytes, 64))
         });
     // A sum left over: no bytes, then a packet whose checksum is right, then one whose sum goes on.
     let sums = (1..=255).flat_map(|sum: u8| {
@@ -643,6 +786,7 @@ fn swept() -> impl Iterator<Item = Case> {
         .chain(commands)
         .chain(kinds)
         .chain(values)
+        .chain(faults)
         .chain(sums)
         .chain(counts)
         .chain(held)
@@ -669,24 +813,6 @@ fn stretches(bytes: &[u8]) -> impl Iterator<Item = Vec<u8>> + '_ {
                 .into_iter()
                 .flatten()
         })
-}
-
-/// The packets that bytes are cut into, and what is left.
-fn packets(bytes: &[u8]) -> Vec<Vec<u8>> {
-    let mut parts = Vec::new();
-    let mut rest = bytes;
-    while rest.len() >= 7 {
-        let length = 7 + u16::from_le_bytes([rest[4], rest[5]]) as usize;
-        if rest.len() < length {
-            break;
-        }
-        parts.push(rest[..length].to_vec());
-        rest = &rest[length..];
-    }
-    if !rest.is_empty() {
-        parts.push(rest.to_vec());
-    }
-    parts
 }
 
 fn smaller_stream(s: &Stream) -> Vec<Case> {
@@ -751,7 +877,7 @@ fn smaller_report(bytes: &[u8]) -> Vec<Case> {
         }
         for i in 0..=report.trials.len() {
             let body = report.trials.get(i).map_or(&report.shipping, |t| &t.1);
-            let parts = packets(body);
+            let parts = generate::packets(body);
             for out in 0..parts.len() {
                 let mut rest = parts.clone();
                 rest.remove(out);
@@ -1085,6 +1211,27 @@ fn missing(t: &Tally) -> Vec<String> {
     for (seen, open) in t.left_over.into_iter().zip(["no", "a"]) {
         need(format!("a sum left over, {open} transfer open"), seen);
     }
+    for field in &generate::FIELDS {
+        let cmd = hex(&field.command.bytes());
+        let place = field.command as usize;
+        for (named, of) in t.values.named.iter().zip(["a packet", "a transfer"]) {
+            let name = format!("byte {} named in {of} of {cmd}", field.byte);
+            need(name, named[place][field.byte]);
+        }
+    }
+    for command in Command::ALL {
+        if generate::Field::of(command).count() > 1 {
+            let name = format!("two wrong fields of {}", hex(&command.bytes()));
+            need(name, t.values.several[command as usize]);
+        }
+    }
+    for code in [2, 9, 0x0A, 0x0B] {
+        let name = format!("a value that is not allowed beside code {code:02X}");
+        need(name, t.values.beside[code]);
+    }
+    for (seen, offence) in t.offences.into_iter().zip(OFFENCES) {
+        need(format!("refusal 18 of {offence}"), seen);
+    }
     none
 }
 
@@ -1126,6 +1273,19 @@ fn summary(t: &Tally) {
         t.emit_refusals[1],
         t.emit_refusals[2],
         t.emit_refusals[3]
+    );
+    let named = |joins: usize| t.values.named[joins].iter().flatten().sum::<u64>();
+    let beside: Vec<String> = (0..16)
+        .filter(|&code| t.values.beside[code] > 0)
+        .map(|code| format!("{code:02X}: {}", t.values.beside[code]))
+        .collect();
+    println!(
+        "wrong bytes named: {} in whole packets, {} in transfers, {} of these before another wrong field; \
+         none with values not allowed beside codes {}",
+        named(0),
+        named(1),
+        t.values.several.iter().sum::<u64>(),
+        beside.join(", ")
     );
     let refusals: Vec<String> = (10..21)
         .map(|refusal| format!("{refusal}: {}", t.verdicts[refusal]))
@@ -1187,8 +1347,9 @@ fn main() {
         let wrong = examples::wrong();
         if !wrong.is_empty() {
             println!(
-                "DIFFERENT from document 01's examples: {}",
-                wrong.join("\n  ")
+                "DIFFERENT from the papers' examples, {} times: {}",
+                wrong.len(),
+                wrong[..wrong.len().min(10)].join("\n  ")
             );
             std::process::exit(1);
         }

@@ -1,4 +1,4 @@
-//! Document 01 once more, and the requests up to 2, in plain Rust: the receiver, the nine commands, the
+//! Document 01 once more, and the requests up to 4, in plain Rust: the receiver, the nine commands, the
 //! encoder, the standard list and the report checker. It was written from the papers and shares nothing
 //! with the crates.
 //! The differential test holds the library to it, and the benchmark measures the library against it.
@@ -49,7 +49,7 @@ pub const fn planted(_fault: usize) -> bool {
 }
 
 /// What each planted fault is, from 1.
-pub const PLANTS: [&str; 31] = [
+pub const PLANTS: [&str; 59] = [
     "the last of equal scores is the winner",
     "a transfer stays open after an error packet",
     "error codes descend",
@@ -81,6 +81,34 @@ pub const PLANTS: [&str; 31] = [
     "a sequence may have 96 / depth patterns",
     "a sequence may have one pattern less than 1 + 95 / depth",
     "the count of a sequence is limited at depth 1 alone",
+    "the last field that is not allowed is named",
+    "the byte behind the wrong one is named",
+    "X and Y that are no listed pair are named at X",
+    "an X that is in no listed pair is named itself",
+    "a count over the limit of its depth is named at the depth",
+    "an inversion that its depth does not allow is named at the depth",
+    "a trigger that its depth does not allow is named at the depth",
+    "a field is named by its number: green at byte 1",
+    "a byte is named with code 0A too",
+    "a byte is named with code 07 too",
+    "a byte is named with code 09 too",
+    "a byte is named with code 0B too",
+    "in a transfer the wrong byte is counted in the last payload",
+    "where no byte is wrong byte 0 is named",
+    "a refusal leaves what wrong held",
+    "a packet that is not complete leaves what wrong held",
+    "a response without code 03 leaves what wrong held",
+    "refusal 18 is placed at kind 4",
+    "refusal 18 is placed at the last packet that is not acknowledged",
+    "refusal 18 is placed at the unfinished packet, also behind one that is not acknowledged",
+    "refusal 18 is placed at the unfinished packet, also behind a transfer left open",
+    "refusal 18 is placed behind the packet that opened the transfer left open",
+    "refusal 18 is placed at the opener of a transfer that an error closed",
+    "refusal 18 is placed at the opener of the first transfer, also where another is left open",
+    "refusal 18's place is counted from the first shipping byte",
+    "refusal 18's place is counted without the header of kind 4",
+    "a read among the shipping packets is let through",
+    "refusal 19 is placed at the first shipping byte",
 ];
 
 // ---------------------------------------------------------------------------------------------
@@ -158,46 +186,113 @@ impl Command {
         self.place().1
     }
 
-    /// Whether data of the command's size are allowed. Run 1 is: mode 4 is another matter.
+    /// The fields of data of the command's size that a rule is about, in layout order: `field` is told
+    /// the first byte of each, counted from 0, and whether it is allowed, until it says `Err`. A rule
+    /// between two fields is the later one's (request 4): X has none of its own, and what a depth does
+    /// not allow is held against count, inversion and trigger. Run 1 is allowed: mode 4 is another matter.
     #[inline(always)]
-    pub fn allows(self, data: &[u8]) -> bool {
+    pub fn fields<E>(
+        self,
+        data: &[u8],
+        mut field: impl FnMut(usize, bool) -> Result<(), E>,
+    ) -> Result<(), E> {
         match (self, data) {
-            (Mode, &[mode]) => matches!(mode, 0 | 1 | 2 | 4),
-            (Pattern, &[pattern]) => pattern <= 13,
+            (Mode, &[mode]) => field(0, matches!(mode, 0 | 1 | 2 | 4)),
+            (Pattern, &[pattern]) => field(0, pattern <= 13),
             (Current, &[r0, r1, g0, g1, b0, b1]) => {
                 let drive = |low, high| u16::from_le_bytes([low, high]) <= 1024;
-                drive(r0, r1) && drive(g0, g1) && drive(b0, b1)
+                field(0, drive(r0, r1))?;
+                field(2, drive(g0, g1))?;
+                field(4, drive(b0, b1))
             }
-            (Colour, &[_, _, _, last]) => last == 0,
-            (Display, &[long, short, rotate]) => (long | short | rotate) <= 1,
+            (Colour, &[_, _, _, last]) => field(3, last == 0),
+            (Display, &[long, short, rotate]) => {
+                field(0, long <= 1)?;
+                field(1, short <= 1)?;
+                field(2, rotate <= 1)
+            }
             (Input, &[x0, x1, y0, y1, ..]) => {
-                listed(u16::from_le_bytes([x0, x1]), u16::from_le_bytes([y0, y1]))
+                let (x, y) = (u16::from_le_bytes([x0, x1]), u16::from_le_bytes([y0, y1]));
+                field(2, listed(x, y))
             }
             (Video, &[rate, depth, led]) => {
-                matches!(rate, 15 | 30 | 40 | 50 | 60)
-                    && matches!(depth, 1..=8)
-                    && matches!(led, 1..=4)
+                field(0, matches!(rate, 15 | 30 | 40 | 50 | 60))?;
+                field(1, matches!(depth, 1..=8))?;
+                field(2, matches!(led, 1..=4))
             }
             (Sequence, &[depth, count, inversion, trigger, .., led]) => {
-                matches!(depth, 1..=8)
-                    && count >= 1
-                    && count <= most_patterns(depth)
-                    && inversion <= 2
-                    && (inversion == 0 || depth == 1 || planted(13))
-                    && trigger <= 6
-                    && (trigger != 6 || depth == 1)
-                    && led <= 2
+                field(0, matches!(depth, 1..=8))?;
+                field(1, count >= 1 && count <= most_patterns(depth))?;
+                field(
+                    2,
+                    inversion <= 2 && (inversion == 0 || depth == 1 || planted(13)),
+                )?;
+                field(3, trigger <= 6 && (trigger != 6 || depth == 1))?;
+                field(16, led <= 2)
             }
-            (Run, &[run]) => run <= 1,
-            _ => false,
+            (Run, &[run]) => field(0, run <= 1),
+            _ => unreachable!("data of another size"),
         }
+    }
+
+    /// Whether data of the command's size are allowed.
+    #[inline(always)]
+    pub fn allows(self, data: &[u8]) -> bool {
+        self.fields(data, |_, allowed| if allowed { Ok(()) } else { Err(()) })
+            .is_ok()
+    }
+
+    /// The first data byte of the first field that is not allowed, of data of the command's size.
+    #[cold]
+    pub fn wrong(self, data: &[u8]) -> Option<usize> {
+        self.fields(data, |at, allowed| if allowed { Ok(()) } else { Err(at) })
+            .err()
     }
 }
 
-/// The most patterns of a sequence of this depth, which is from 1 to 8 (request 2): patterns are
-/// numbered from 0 to 95 divided by the bits of each, in whole numbers.
+/// What the planted faults name in the place of the wrong byte.
+#[inline]
+fn misnamed(command: Command, data: &[u8], wrong: usize) -> usize {
+    let at_depth = match (command, wrong) {
+        (Sequence, 1) => planted(36) && data[1] > 0,
+        (Sequence, 2) => planted(37) && data[2] <= 2,
+        (Sequence, 3) => planted(38) && data[3] <= 6,
+        _ => false,
+    };
+    let at_x = || {
+        let x = u16::from_le_bytes([data[0], data[1]]);
+        planted(34) || (planted(35) && !(0..=u16::MAX).any(|y| listed(x, y)))
+    };
+    if planted(32) {
+        let mut last = wrong;
+        let _ = command.fields(data, |at, allowed| {
+            if !allowed {
+                last = at;
+            }
+            Ok::<_, ()>(())
+        });
+        return last;
+    }
+    if at_depth || (command == Input && at_x()) {
+        return 0;
+    }
+    if planted(39) {
+        return match (command, wrong) {
+            (Current | Input, at) => at / 2,
+            (Sequence, 16) => 7,
+            (_, at) => at,
+        };
+    }
+    wrong + planted(33) as usize
+}
+
+/// The most patterns of a sequence of this depth (request 2): patterns are numbered from 0 to 95 divided
+/// by the bits of each, in whole numbers. A depth that is not from 1 to 8 has the most that any has.
 #[inline]
 fn most_patterns(depth: u8) -> u8 {
+    if !matches!(depth, 1..=8) {
+        return 96;
+    }
     if planted(29) {
         return 96 / depth;
     }
@@ -333,9 +428,9 @@ impl Transfer {
     }
 }
 
-/// What a packet draws.
+/// What a packet draws: an error packet with these codes, and with code 03 the wrong byte beside it.
 enum Answer {
-    Error(Faults),
+    Error(Faults, Option<usize>),
     Written,
     Data(Command),
 }
@@ -401,40 +496,46 @@ impl State {
         faults
     }
 
-    /// Size, values and mode of a write that is to be carried out; stored when all are right.
+    /// Size, values and mode of a write that is to be carried out; stored when all are right. With code
+    /// 03 comes the wrong byte.
     #[inline]
-    fn store(&mut self, command: Command, data: &[u8]) -> Faults {
+    fn store(&mut self, command: Command, data: &[u8]) -> (Faults, Option<usize>) {
         if data.len() != command.size() {
-            return SIZE;
+            return (SIZE, planted(40).then_some(0));
         }
         if !command.allows(data) {
             if planted(9) && command == Current {
                 self.settings.0[2..6].copy_from_slice(&data[..4]);
             }
-            return INVALID_VALUE;
+            let wrong = command.wrong(data);
+            return (INVALID_VALUE, wrong.map(|at| misnamed(command, data, at)));
         }
         if command == Run && data[0] == 1 && self.settings.mode() != 4 {
-            return NOT_INITIALIZED;
+            return (NOT_INITIALIZED, planted(41).then_some(0));
         }
         self.settings.set(command, data);
         if command == Mode && data[0] != 4 && !planted(8) {
             self.settings.set(Run, &[0]);
         }
-        0
+        (0, None)
     }
 
-    /// The same for a transfer, of which this is the last payload.
+    /// The same for a transfer, of which this is the last payload: the byte is one of the joined data.
     #[inline]
-    fn store_joined(&mut self, command: Command, payload: &[u8]) -> Faults {
+    fn store_joined(&mut self, command: Command, payload: &[u8]) -> (Faults, Option<usize>) {
         let held = self.transfer.held;
         if held + payload.len() != command.size() {
-            return SIZE;
+            return (SIZE, planted(40).then_some(0));
         }
         let mut joined = [0; LARGEST];
         let joined = &mut joined[..command.size()];
         joined[..held].copy_from_slice(&self.buffer[..held]);
         joined[held..].copy_from_slice(payload);
-        self.store(command, joined)
+        let (faults, wrong) = self.store(command, joined);
+        if planted(44) {
+            return (faults, wrong.map(|at| at.saturating_sub(held)));
+        }
+        (faults, wrong)
     }
 
     /// Judges a complete packet and carries it out. A payload over 1,024 bytes is not looked at, and
@@ -442,10 +543,16 @@ impl State {
     #[inline]
     fn judge(&mut self, header: &[u8; HEADER], sum_right: bool, payload: &[u8]) -> Answer {
         let mut faults = self.first_group(header, sum_right);
+        let mut wrong = None;
         let &[kind, cmd1, cmd2, flags, low, high] = header;
         let length = u16::from_le_bytes([low, high]) as usize;
         if planted(24) && matches!(flags, BEGINNING | INTERMEDIATE) {
             fit(&mut self.buffer, self.transfer.held(), payload);
+        }
+        if (planted(42) && faults == CHECKSUM) || (planted(43) && faults == CONTINUATION) {
+            wrong = Command::from_bytes(cmd1, cmd2)
+                .filter(|command| payload.len() == command.size())
+                .and_then(|command| command.wrong(payload));
         }
         if let (0, Some(command)) = (faults, Command::from_bytes(cmd1, cmd2)) {
             match flags {
@@ -469,11 +576,11 @@ impl State {
                     self.transfer.held += length;
                 }
                 LAST => {
-                    faults = self.store_joined(command, payload);
+                    (faults, wrong) = self.store_joined(command, payload);
                     self.transfer = Transfer::NONE;
                 }
                 _ => {
-                    faults = self.store(command, payload);
+                    (faults, wrong) = self.store(command, payload);
                     self.transfer = Transfer::NONE;
                 }
             }
@@ -484,7 +591,7 @@ impl State {
         if !planted(2) {
             self.transfer = Transfer::NONE;
         }
-        Answer::Error(faults)
+        Answer::Error(faults, wrong)
     }
 }
 
@@ -514,8 +621,15 @@ pub enum Refusal {
 
 #[derive(Clone, Copy, PartialEq, Eq, Debug)]
 pub enum Progress {
-    Waiting { taken: usize },
-    Answered { taken: usize, length: usize },
+    Waiting {
+        taken: usize,
+    },
+    /// With code 03 the wrong byte.
+    Answered {
+        taken: usize,
+        length: usize,
+        wrong: Option<usize>,
+    },
 }
 
 #[derive(Clone, Copy, PartialEq, Eq, Debug)]
@@ -576,10 +690,11 @@ impl Controller {
             self.keep(payload);
             rest = tail;
             if let Some((&last, tail)) = rest.split_first() {
-                let length = self.answer(last, out);
+                let (length, wrong) = self.answer(last, out);
                 return Ok(Progress::Answered {
                     taken: input.len() - tail.len(),
                     length,
+                    wrong,
                 });
             }
         }
@@ -623,25 +738,29 @@ impl Controller {
         self.received += payload.len();
     }
 
-    /// Answers the packet that its last byte completes.
+    /// Answers the packet that its last byte completes: the response's length, and the wrong byte.
     #[inline]
-    fn answer(&mut self, last: u8, out: &mut [u8; OUTPUT]) -> usize {
+    fn answer(&mut self, last: u8, out: &mut [u8; OUTPUT]) -> (usize, Option<usize>) {
         let payload = &self.hold[..self.length().min(HOLD)];
         let answer = self.state.judge(&self.header, self.sum == last, payload);
         self.received = 0;
         self.sum = 0;
         let command = [self.header[1], self.header[2]];
+        let mut named = None;
         let length = match answer {
             Answer::Written => packet(out, WRITE_RESPONSE, command, &[]),
             Answer::Data(which) => {
                 packet(out, READ_RESPONSE, command, self.state.settings.get(which))
             }
-            Answer::Error(faults) => error_packet(out, command, faults),
+            Answer::Error(faults, wrong) => {
+                named = wrong;
+                error_packet(out, command, faults)
+            }
         };
         if planted(15) {
             out[length] = !out[length];
         }
-        length
+        (length, named)
     }
 }
 
@@ -725,38 +844,76 @@ pub struct Rejected {
     pub place: usize,
 }
 
-/// How a run of packets ended.
+/// How a run of packets ended: the settings, and by its first byte each packet that refusal 18 is about.
 pub struct Played {
     pub settings: Settings,
-    /// Every packet drew a write response.
-    pub acknowledged: bool,
-    /// No packet and no transfer is left half sent.
-    pub finished: bool,
+    /// The first packet that drew something else than a write response.
+    pub refused: Option<usize>,
+    /// The packet that opened the transfer that is left open.
+    pub opened: Option<usize>,
+    /// The packet that is left half sent.
+    pub unfinished: Option<usize>,
+}
+
+impl Played {
+    /// Where refusal 18 points: at the earliest of these.
+    fn offence(&self) -> Option<usize> {
+        let passed_over = if self.refused.is_some() { 51 } else { 52 };
+        if planted(passed_over) && self.unfinished.is_some() {
+            return self.unfinished;
+        }
+        [self.refused, self.opened, self.unfinished]
+            .into_iter()
+            .flatten()
+            .min()
+    }
 }
 
 /// Plays packets from given settings.
-pub fn play(settings: Settings, mut bytes: &[u8]) -> Played {
+pub fn play(settings: Settings, bytes: &[u8]) -> Played {
     let mut state = State {
         settings,
         ..State::default()
     };
-    let mut acknowledged = true;
-    while let Some((header, after)) = bytes.split_first_chunk::<HEADER>() {
+    let mut rest = bytes;
+    let (mut refused, mut opened, mut first_opened) = (None, None, None);
+    while let Some((header, after)) = rest.split_first_chunk::<HEADER>() {
         let length = u16::from_le_bytes([header[4], header[5]]) as usize;
-        let Some((&last, rest)) = after.get(length..).and_then(<[u8]>::split_first) else {
+        let Some((&last, behind)) = after.get(length..).and_then(<[u8]>::split_first) else {
             break;
         };
         let payload = &after[..length];
-        bytes = rest;
+        let at = bytes.len() - rest.len();
+        rest = behind;
         let head = if planted(4) { 0 } else { sum(header) };
         let right = head.wrapping_add(sum(payload)) == last;
-        acknowledged &= matches!(state.judge(header, right, payload), Answer::Written);
+        let acknowledged = match state.judge(header, right, payload) {
+            Answer::Written => true,
+            Answer::Data(_) => planted(58),
+            Answer::Error(..) => false,
+        };
+        if !acknowledged && (refused.is_none() || planted(50)) {
+            refused = opened.filter(|_| planted(54)).or(Some(at));
+        }
+        if !state.transfer.open() {
+            opened = None;
+        } else if opened.is_none() {
+            opened = Some(if planted(53) {
+                bytes.len() - rest.len()
+            } else {
+                at
+            });
+            first_opened = first_opened.or(opened);
+        }
     }
-    let finished = bytes.is_empty() && !state.transfer.open();
+    if planted(55) {
+        opened = opened.and(first_opened);
+    }
     Played {
         settings: state.settings,
-        acknowledged,
-        finished,
+        refused,
+        opened,
+        unfinished: (!rest.is_empty()).then(|| bytes.len() - rest.len()),
     }
 }
 
@@ -860,7 +1017,13 @@ pub fn check_report(report: &[u8]) -> Result<Accepted, Rejected> {
         });
     }
     let shipped = play(Settings::FACTORY, shipping);
-    if !shipped.acknowledged || !shipped.finished {
+    if let Some(at) = shipped.offence() {
+        let place = match () {
+            _ if planted(49) => place,
+            _ if planted(56) => at,
+            _ if planted(57) => place + at,
+            _ => place + 4 + at,
+        };
         return Err(Rejected { number: 18, place });
     }
     // The trials after the winner have no say in its end settings.
@@ -883,7 +1046,11 @@ pub fn check_report(report: &[u8]) -> Result<Accepted, Rejected> {
         shipped.set(Colour, settings.get(Colour));
     }
     if shipped != settings {
-        let place = if planted(18) { winner_place } else { place };
+        let place = match () {
+            _ if planted(18) => winner_place,
+            _ if planted(59) => place + 4,
+            _ => place,
+        };
         return Err(Rejected { number: 19, place });
     }
     Ok(Accepted {
