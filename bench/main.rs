@@ -15,8 +15,8 @@ use std::time::Instant;
 
 /// The calls, for one side.
 trait Side {
-    /// Bytes taken.
-    fn receive(&mut self, input: &[u8], out: &mut [u8]) -> usize;
+    /// Bytes taken, and the wrong byte, as the library has it.
+    fn receive(&mut self, input: &[u8], out: &mut [u8]) -> (usize, u64);
     fn encode(&mut self, cmd: [u8; 2], out: &mut [u8]) -> usize;
     fn list(&mut self, out: &mut [u8]) -> usize;
     /// The refusal, 0 for accepted.
@@ -29,10 +29,11 @@ struct Library {
 }
 
 impl Side for Library {
-    fn receive(&mut self, input: &[u8], out: &mut [u8]) -> usize {
-        let (mut taken, mut size) = (0, 0);
-        ffi::receive(&mut self.controller, input, out, &mut taken, &mut size);
-        taken as usize
+    fn receive(&mut self, input: &[u8], out: &mut [u8]) -> (usize, u64) {
+        let (mut taken, mut size, mut wrong) = (0, 0, 0);
+        let c = &mut self.controller;
+        ffi::receive(c, input, out, &mut taken, &mut size, &mut wrong);
+        (taken as usize, wrong)
     }
     fn encode(&mut self, cmd: [u8; 2], out: &mut [u8]) -> usize {
         let mut size = 0;
@@ -58,12 +59,13 @@ struct Model {
 // Never inlined: the library's calls are not either.
 impl Side for Model {
     #[inline(never)]
-    fn receive(&mut self, input: &[u8], out: &mut [u8]) -> usize {
-        match self.controller.receive(input, out) {
-            Ok(model::Progress::Waiting { taken }) => taken,
-            Ok(model::Progress::Answered { taken, .. }) => taken,
-            Err(_) => 0,
-        }
+    fn receive(&mut self, input: &[u8], out: &mut [u8]) -> (usize, u64) {
+        let (taken, wrong) = match self.controller.receive(input, out) {
+            Ok(model::Progress::Waiting { taken }) => (taken, None),
+            Ok(model::Progress::Answered { taken, wrong, .. }) => (taken, wrong),
+            Err(_) => (0, None),
+        };
+        (taken, wrong.map_or(ffi::NO_WRONG_BYTE, |at| at as u64))
     }
     #[inline(never)]
     fn encode(&mut self, [cmd1, cmd2]: [u8; 2], out: &mut [u8]) -> usize {
@@ -130,6 +132,28 @@ fn mix(input: &[u8]) -> Vec<Vec<u8>> {
 /// 608 x 684, the factory's pair and the last of the list, and 240 x 320, its first.
 const LAST_PAIR: [u8; 12] = [0x60, 2, 0xAC, 2, 0, 0, 0, 0, 0x60, 2, 0xAC, 2];
 const FIRST_PAIR: [u8; 12] = [240, 0, 0x40, 1, 0, 0, 0, 0, 240, 0, 0x40, 1];
+
+/// A write of every command whose last field with a rule is not allowed, so that all are looked at.
+fn refused() -> Vec<Vec<u8>> {
+    use model::Command::*;
+    let write = |command: model::Command, at: usize, wrong: u8| {
+        let mut data = model::Settings::FACTORY.get(command).to_vec();
+        data[at] = wrong;
+        packet(2, command.bytes(), 0, &data)
+    };
+    // blue 1298 counts, and 608 x 685
+    vec![
+        write(Mode, 0, 3),
+        write(Pattern, 0, 14),
+        write(Current, 5, 5),
+        write(Colour, 3, 1),
+        write(Display, 2, 2),
+        write(Input, 2, 0xAD),
+        write(Video, 2, 5),
+        write(Sequence, 16, 3),
+        write(Run, 0, 2),
+    ]
+}
 
 /// A report of these trials' packets that is accepted: the last trial wins, so all are played.
 fn report(trials: &[Vec<u8>]) -> Vec<u8> {
@@ -204,6 +228,7 @@ fn workloads() -> Vec<Workload> {
     let packets = cycle.len() as f64;
     let cycle = cycle.concat();
     let first = mix(&FIRST_PAIR).concat();
+    let refused = refused().concat();
     let small = report_of_small();
     let large = report_of_large();
     let bytes = |input: &[u8]| input.len() as f64 / 1e6;
@@ -282,6 +307,15 @@ fn workloads() -> Vec<Workload> {
             true,
         ),
         work(
+            "refused",
+            "small writes that draw 03",
+            Receive { each: whole },
+            &refused,
+            9.0 / 1e6,
+            "M packets/s",
+            true,
+        ),
+        work(
             "encode",
             "encode, each command in turn",
             Encode,
@@ -331,10 +365,10 @@ fn perform<S: Side>(side: &mut S, w: &Workload, times: usize) -> u64 {
                 let mut rest = black_box(&w.input[..]);
                 while !rest.is_empty() {
                     let given = rest.len().min(each);
-                    let taken = side.receive(&rest[..given], &mut out);
+                    let (taken, wrong) = side.receive(&rest[..given], &mut out);
                     assert!(taken > 0, "{}: refused", w.name);
                     rest = &rest[taken..];
-                    seen += out[0] as u64;
+                    seen = seen.wrapping_add(out[0] as u64).wrapping_add(wrong);
                 }
             }
             Work::Encode => {
@@ -448,7 +482,7 @@ macro_rules! depth {
 fn stack_of_receive(input: &[u8], each: usize) -> usize {
     let mut c = ffi::Controller::fresh();
     let mut out = [0u8; 128];
-    let (mut taken, mut size) = (0, 0);
+    let (mut taken, mut size, mut wrong) = (0, 0, 0);
     let mut rest = input;
     let mut deepest = 0;
     while !rest.is_empty() {
@@ -456,7 +490,7 @@ fn stack_of_receive(input: &[u8], each: usize) -> usize {
         let before = c.clone();
         deepest = deepest.max(depth!({
             c.clone_from(&before);
-            ffi::receive(&mut c, given, &mut out, &mut taken, &mut size)
+            ffi::receive(&mut c, given, &mut out, &mut taken, &mut size, &mut wrong)
         }));
         rest = &rest[taken as usize..];
     }
@@ -467,9 +501,16 @@ fn stack_of_receive(input: &[u8], each: usize) -> usize {
 fn stack_of_refusal() -> usize {
     let mut c = ffi::Controller::fresh();
     let mut out = [0u8; 128];
-    let (mut taken, mut size) = (0, 0);
+    let (mut taken, mut size, mut wrong) = (0, 0, 0);
     c.settings.mode = 3;
-    depth!(ffi::receive(&mut c, &[2], &mut out, &mut taken, &mut size))
+    depth!(ffi::receive(
+        &mut c,
+        &[2],
+        &mut out,
+        &mut taken,
+        &mut size,
+        &mut wrong
+    ))
 }
 
 #[inline(never)]
@@ -503,9 +544,11 @@ fn sizes() {
     let cycle = mix(&LAST_PAIR).concat();
     let transfer = [packet(2, [1, 3], 1, &[]), packet(2, [1, 3], 3, &[5])].concat();
     let faulty = packet(0, [9, 9], 7, &payload(1025));
+    let refused = refused().concat();
     let receive = [
         (&cycle, usize::MAX),
         (&cycle, 1),
+        (&refused, usize::MAX),
         (&transfer, 5),
         (&faulty, usize::MAX),
         (&faulty, 64),

@@ -102,6 +102,7 @@ enum {
     STREAMS, LENT_HEADS, RECEIVED, OF_ONE_BYTE, PACKETS, RESETS, ENCODES, LISTS, REPORTS,
     WAITING, WRITTEN, READ, FAULTY, SHORT, RULE,
     CODE_02, CODE_03, CODE_04, CODE_07, CODE_09, CODE_0A, CODE_0B,
+    BYTE_0, BYTE_1, BYTE_2, BYTE_3, BYTE_4, BYTE_16,
     ENCODED, ENCODE_SHORT, ENCODE_NOT,
     LISTED, LIST_SHORT, LIST_RULE,
     ACCEPTED, REFUSED_10, REFUSED_20 = REFUSED_10 + 10,
@@ -114,6 +115,7 @@ static const char *const names[KINDS] = {
     "receive: waiting", "receive: write response", "receive: read response", "receive: error packet",
     "receive: refusal 1", "receive: refusal 3",
     "code: 02", "code: 03", "code: 04", "code: 07", "code: 09", "code: 0A", "code: 0B",
+    "wrong byte: 0", "wrong byte: 1", "wrong byte: 2", "wrong byte: 3", "wrong byte: 4", "wrong byte: 16",
     "encode: written", "encode: refusal 1", "encode: refusal 2",
     "standard_list: written", "standard_list: refusal 1", "standard_list: refusal 3",
     "check_report: accepted", "check_report: refusal 10", "check_report: refusal 11", "check_report: refusal 12",
@@ -134,7 +136,20 @@ static void saw_codes(const uint8_t *out, uint64_t size) {
     }
 }
 
-static void saw_receipt(uint32_t refusal, uint64_t cut, uint64_t size, const uint8_t *out) {
+/* With code 03, and with nothing else, a byte is named that a field begins with. */
+static void saw_byte(int with_03, uint64_t wrong) {
+    static const uint8_t bytes[] = {0, 1, 2, 3, 4, 16};
+    size_t k;
+    if (!with_03 && wrong == IMJARLET_NO_WRONG_BYTE) return;
+    if (!with_03) leave(3, "receive: a wrong byte without code 03: ", wrong);
+    for (k = 0; k < sizeof bytes && bytes[k] != wrong; k++) {}
+    if (k == sizeof bytes) leave(3, "receive: no field begins with byte ", wrong);
+    seen[BYTE_0 + k]++;
+}
+
+static void saw_receipt(uint32_t refusal, uint64_t cut, uint64_t size, uint64_t wrong, const uint8_t *out) {
+    int error = refusal == IMJARLET_NO_REFUSAL && size > 0 && out[0] == IMJARLET_ERROR;
+    saw_byte(error && out[6] == IMJARLET_CODE_VALUE, wrong);
     seen[RECEIVED]++;
     seen[OF_ONE_BYTE] += cut == 1;
     if (refusal == IMJARLET_SHORT_OUTPUT) seen[SHORT]++;
@@ -271,24 +286,26 @@ static void fresh(void) {
 
 /* Whether the controller was not refused; *at grows by the bytes taken. */
 static int receive(const uint8_t *input, size_t cut, size_t length, uint8_t fill, size_t *at) {
-    imjarlet_size taken, size;
+    imjarlet_size taken, size, wrong;
     uint8_t *out = lend(fill);
     uint32_t refusal;
     if (painting) before = head;
-    MEASURE(OF_RECEIVE, head = before, imjarlet_receive(&head, input, cut, out, length, &taken, &size))
+    MEASURE(OF_RECEIVE, head = before, imjarlet_receive(&head, input, cut, out, length, &taken, &size, &wrong))
     if (painting) head = before;
     lend(fill);
     memset(&taken, OLD, sizeof taken);
     memset(&size, OLD, sizeof size);
-    refusal = imjarlet_receive(&head, input, cut, out, length, &taken, &size);
+    memset(&wrong, OLD, sizeof wrong);
+    refusal = imjarlet_receive(&head, input, cut, out, length, &taken, &size, &wrong);
     put(&refusal, sizeof refusal);
     put(&taken, sizeof taken);
     put(&size, sizeof size);
+    put(&wrong, sizeof wrong);
     put(out - BESIDE, BESIDE + length + BESIDE);
     note(&head, sizeof head);
     if (taken > cut) leave(3, "receive: more bytes taken than given: ", taken);
     if (size > length) leave(3, "receive: a response longer than the output: ", size);
-    saw_receipt(refusal, cut, size, out);
+    saw_receipt(refusal, cut, size, wrong, out);
     *at += (size_t)taken;
     return refusal != IMJARLET_OUT_OF_RULE;
 }

@@ -115,6 +115,7 @@ fn conversation() -> Vec<u8> {
     bytes.extend(generate::packet(2, [4, 0], 2, &data[3..10]));
     bytes.extend(generate::packet(2, [4, 0], 3, &data[10..]));
     bytes.extend(generate::packet(2, [4, 2], 0, &[1]));
+    bytes.extend(generate::packet(2, [1, 4], 0, &[0, 0, 1, 4, 0, 0]));
     bytes.extend(generate::packet(7, [9, 9], 9, &[9; 20]));
     bytes
 }
@@ -133,8 +134,21 @@ fn fixed() -> [Case; 4] {
     ]
 }
 
-/// Every way to cut a stream in equal parts, every length of an output, and every byte of every
-/// command's data.
+/// Each value that is not allowed, and each set of them: whole, and in a transfer of two halves.
+fn misvalued() -> Vec<u8> {
+    let faults = generate::every_fault().into_iter();
+    let packets = faults.flat_map(|(command, data, _)| {
+        let cmd = command.bytes();
+        let (first, last) = data.split_at(data.len() / 2);
+        [(0, &data[..]), (1, first), (3, last)]
+            .map(|(flags, data)| generate::packet(2, cmd, flags, data))
+            .concat()
+    });
+    packets.collect()
+}
+
+/// Every way to cut a stream in equal parts, every length of an output, every byte of every command's
+/// data, and the values that are not allowed.
 fn swept() -> Vec<Case> {
     let mut cases = Vec::new();
     let bytes = conversation();
@@ -148,6 +162,7 @@ fn swept() -> Vec<Case> {
         cases.push(Case::List(factory(), out));
         cases.extend(Command::ALL.map(|command| Case::Encode(command.bytes(), factory(), out)));
     }
+    cases.push(Case::Stream(single(misvalued(), 64)));
     for (command, data) in generate::every_value() {
         let mut changed = Settings::FACTORY;
         changed.set(command, &data);
