@@ -69,11 +69,16 @@ module _ (v w : List ℕ) (k : ℕ) (e : take k v ≡ take k w) where
   alike VideoInput =
       (λ _. refl, (λ h. rw (same-value 0 (omega arith), same-value 1 h), (λ _. refl, (λ _. refl, (λ _. refl, (λ _. refl, tt))))))
   alike VideoMode = (λ h. rw (same-value 0 h), (λ h. rw (same-value 1 h), (λ h. rw (same-value 2 h), tt)))
-  alike PatternSequence =
-      (λ h. rw (same-value 0 h),
-      (λ h. rw (same-value 0 (omega arith), same-value 1 h),
-      (λ h. rw (same-value 0 (omega arith), same-value 2 h),
-      (λ h. rw (same-value 0 (omega arith), same-value 3 h), (λ _. refl, (λ _. refl, (λ _. refl, (λ h. rw (same-value 7 h), tt))))))))
+  alike PatternSequence = (
+    λ h. rw (same-value 0 h),
+    (
+      λ h. rw (same-value 0 (omega arith), same-value 1 h),
+      (
+        λ h. rw (same-value 0 (omega arith), same-value 2 h),
+        (λ h. rw (same-value 0 (omega arith), same-value 3 h), (λ _. refl, (λ _. refl, (λ _. refl, (λ h. rw (same-value 7 h), tt))))),
+      ),
+    ),
+  )
   alike SequenceRun = (λ h. rw (same-value 0 h), tt)
 
 -- The byte that is named.

@@ -330,8 +330,8 @@ module _ (s : Settings) (b : List ℕ) where
   pub none-named : (offence s b ≡ none) ↔ ((allAcknowledged (judgementsOn s b) ≡ true) × (play s b .transfer ≡ Closed) × (halfSent b ≡ []))
   none-named = (
     λ e.
-    let all = sym absent-is ∙ absent-none (offence s b) .0 e in
-    let left = and-right (allAcknowledged (judgementsOn s b)) _ all in
-    (and-left _ _ all, closed-not (play s b .transfer) (not-true _ (and-right (isNil (halfSent b)) _ left)), nil-only (halfSent b) (and-left _ _ left)),
+        let all = sym absent-is ∙ absent-none (offence s b) .0 e in
+        let left = and-right (allAcknowledged (judgementsOn s b)) _ all in
+        (and-left _ _ all, closed-not (play s b .transfer) (not-true _ (and-right (isNil (halfSent b)) _ left)), nil-only (halfSent b) (and-left _ _ left)),
     λ h. absent-none (offence s b) .1 (absent-is ∙ rw (h .0, h .1, h .2)),
   )
