@@ -31,7 +31,7 @@ use Rattle.command.specs.Response.{responseType, response}
 use Rattle.command.specs.Player.{State, from, judged, next, responses, after}
 use Rattle.command.specs.Controller.{transferOf, transferIn, stateOf, transferInRule, zeros, fresh}
 use Rattle.command.specs.Encoder.{After as Encoding, writePacket, encoded, writes, encodeCall}
-use Rattle.command.specs.Sending.{Sending, sentTo, Ready, Boundary, Idle}
+use Rattle.command.specs.Sending.{Sending, responsesIn, sentTo, Ready, Boundary, Idle}
 use Rattle.command.specs.Demand2.{Follows, Legal, atStart, packetBy, acknowledgement, notInMode, readPacket, readAnswer, ReadBack, Blocked, Remade, Demand2}
 use Rattle.command.specs.declared.table.Command.{Command}
 use Rattle.command.specs.declared.table.Command.the-variants.{SequenceRun}
@@ -47,13 +47,13 @@ use Rattle.command.proofs.data.Laws.{length-join}
 use Rattle.command.proofs.transfer.Laws.{by-transfer}
 use Rattle.command.proofs.judgement.Laws.{judge-cases, Sound, sound}
 use Rattle.command.proofs.controller.Laws.{rule-parts, rule-whole}
-use Rattle.command.proofs.endpoint.Laws.{at-once}
+use Rattle.command.proofs.endpoint.Laws.{replies-anyhow}
 use Rattle.command.proofs.endpoint.Boundary.{follows-played}
 use Rattle.command.proofs.encoder.Laws.{plain, arrived-plain, judge-plain, write-packet, encoder-judged, accepted-encodes}
 
 -- However the byte stream was cut.
 cut-anyhow : (c : Controller) (b : List ℕ) (s t : Sending b) → Ready c → sentTo c s ≡ sentTo c t
-cut-anyhow c b s t k = at-once (s .outs 0) (s .room 0) c b s k ∙ sym (at-once (s .outs 0) (s .room 0) c b t k)
+cut-anyhow c b s t k = ap responsesIn (replies-anyhow c b s t k)
 
 -- One whole packet alone.
 

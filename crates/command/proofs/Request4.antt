@@ -9,6 +9,7 @@ use native.Mathlib.Omega.{arith}
 use lib.Dec.{ltb}
 use lib.ListN.{length, take, getD}
 use lib.Seq.{getD-take, take-at}
+use Rattle.packet.specs.Calls.{Served}
 use Rattle.packet.specs.Writer.{written}
 use Rattle.packet.proofs.Cases.{cond-cases, and-left, and-right, never}
 use Rattle.command.specs.Table.{commandOf, layout}
@@ -20,6 +21,7 @@ use Rattle.command.specs.Judgement.{judge}
 use Rattle.command.specs.Response.{wrongIn, response}
 use Rattle.command.specs.Controller.{stateOf, inRule}
 use Rattle.command.specs.Endpoint.{takenBy, arrivedIn, judgedIn, responseIn, After, answered, receiveCall}
+use Rattle.command.specs.Sending.{Reply}
 use Rattle.command.specs.Inner.{isNothing}
 use Rattle.command.specs.Demand1.{joinedData}
 use Rattle.command.specs.Request4.{startsFrom, FirstNotAllowed, Draws03, WrongIn, Request4}
@@ -35,6 +37,8 @@ use Rattle.command.proofs.rules.Laws.{nothing-wrong}
 use Rattle.command.proofs.faults.Laws.{named}
 use Rattle.command.proofs.judgement.Laws.{judge-cases}
 use Rattle.command.proofs.judgement.Called.{IsError}
+use Rattle.command.proofs.endpoint.Laws.{replies-anyhow}
+use Rattle.command.proofs.endpoint.Boundary.{wrong-played}
 use Rattle.command.proofs.player.Offences.{earliest-named, none-named}
 use Rattle.command.proofs.Demand1.{error-response, response-error, answers-by, answer-length}
 
@@ -262,6 +266,8 @@ request-4 =
       first = λ c v n. (first-named (fieldsOf c v) n, named-first (fieldsOf c v) n);
       reports = reported;
       exactly = λ c input out n. (reported-first c input out n, first-reported c input out n);
+      streams = wrong-played;
+      cut = λ c b s t k. ap (λ (r : Served Controller Reply). map (λ (x : Reply). x .wrong) (r .given)) (replies-anyhow c b s t k);
       beside = λ s p w x. unfold response codesOf in refl;
       offends = earliest-named;
       clean = none-named;

@@ -15,10 +15,11 @@ use Rattle.command.specs.Rules.{Field, fieldsOf, allRight, allowed, wron
 use Rattle.command.specs.Data.{splitAll}
 use Rattle.command.specs.Transfer.{Closed}
 use Rattle.command.specs.Faults.{Arrived, valueFault}
-use Rattle.command.specs.Response.{acknowledged, response}
-use Rattle.command.specs.Player.{State, from, judged, after, play, judgementsOn, allAcknowledged, halfSent, offence}
+use Rattle.command.specs.Response.{acknowledged, response, wrongIn}
+use Rattle.command.specs.Player.{State, from, judged, judgements, after, play, judgementsOn, allAcknowledged, halfSent, offence}
 use Rattle.command.specs.Controller.{stateOf}
 use Rattle.command.specs.Endpoint.{takenBy, arrivedIn, receiveCall}
+use Rattle.command.specs.Sending.{Sending, wrongTo, Ready, Boundary}
 use Rattle.command.specs.Demand1.{Names, joinedData, errorPacket}
 use Rattle.command.specs.declared.table.Command.{Command}
 use Rattle.command.specs.declared.settings.Settings.{Settings}
@@ -90,6 +91,9 @@ pub record Request4 : Type 0 where
   pub reports : (c : Controller) (input out : List ℕ) → Draws03 c input out → receiveCall c input out .wrong ≡ none → ⊥
   pub exactly : (c : Controller) (input out : List ℕ) (n : ℕ)
       → (receiveCall c input out .wrong ≡ some n) ↔ (Draws03 c input out × WrongIn (stateOf c) (arrivedIn (takenBy c input)) n)
+  -- over whole streams, however they were cut: with each response the byte of the packet that drew it, as it is judged when it comes
+  pub streams : (c : Controller) (b : List ℕ) (s : Sending b) → Boundary c → wrongTo c s ≡ map wrongIn (judgements (stateOf c) (packets b))
+  pub cut : (c : Controller) (b : List ℕ) (s t : Sending b) → Ready c → wrongTo c s ≡ wrongTo c t
   -- "beside the response, whose bytes stay the same": they do not depend on it
   pub beside : (s : Settings) (p : Arrived) (w x : WrongByte) → response s p (Error (valueFault w)) ≡ response s p (Error (valueFault x))
   -- playing names the earliest place that offends, and none exactly when each packet is acknowledged and no transfer or packet is left half sent

@@ -2,8 +2,8 @@
 use Prim.Native.Nat.{ℕ, suc, _+_, _≤_}
 use mathlib.Core.Path.{_≡_, refl, ap, ap₂, sym, subst, _∙_}
 use mathlib.Core.Bool.{false}
-use mathlib.Core.List.{List, _∷_, _++_}
-use mathlib.Core.Option.{some}
+use mathlib.Core.List.{List, [], _∷_, _++_, map}
+use mathlib.Core.Option.{Option, some}
 use native.Mathlib.Nat.{zero-add}
 use native.Mathlib.Omega.{arith}
 use lib.ListN.{length, take, drop, length-append}
@@ -11,8 +11,8 @@ use lib.Seq.{sets, getD-take, take-at, drop-at}
 use Rattle.packet.specs.Answer.{Answers}
 use Rattle.packet.specs.Calls.{Call, Served, andThen, callsOn, servedOne}
 use Rattle.packet.specs.Packet.{payloadLength, payload, rightSum}
-use Rattle.packet.specs.Receiver.{Received, with, waiting as receiverWaiting}
-use Rattle.packet.specs.Stream.{size, hasPacket, packets}
+use Rattle.packet.specs.Receiver.{Receiver, Received, with, waiting as receiverWaiting}
+use Rattle.packet.specs.Stream.{size, hasPacket, packets, rest}
 use Rattle.packet.specs.Writer.{written}
 use Rattle.packet.proofs.Cases.{bool-cases}
 use Rattle.packet.proofs.Calls.{same-calls}
@@ -23,11 +23,11 @@ use Rattle.command.specs.Transfer.{Transfer, held}
 use Rattle.command.specs.Faults.{Arrived, arrived, faults, anyFault}
 use Rattle.command.specs.Judgement.{judgeAs, judge}
 use Rattle.command.specs.Carry.{settingsAfter, transferAfter}
-use Rattle.command.specs.Response.{response}
-use Rattle.command.specs.Player.{State, judged, next, responses, after}
+use Rattle.command.specs.Response.{response, wrongIn}
+use Rattle.command.specs.Player.{State, judged, next, judgements, responses, after}
 use Rattle.command.specs.Controller.{transferOf, heldIn, stateOf, receiverIn}
 use Rattle.command.specs.Endpoint.{arrivedIn, judgedIn, responseIn, carriedOut, After, waiting, receiveCall}
-use Rattle.command.specs.Sending.{serves, Ready, Sending, sentTo, Boundary}
+use Rattle.command.specs.Sending.{Reply, serves, Ready, Sending, repliesTo, sentTo, wrongTo, Boundary}
 use Rattle.command.specs.Demand2.{Follows}
 use Rattle.command.specs.declared.table.Found.{Found}
 use Rattle.command.specs.declared.table.Found.the-variants.{Known, Unknown}
@@ -116,6 +116,7 @@ drawn c p = response (c .settings) (arrived p) (judged (stateOf c) p)
 pub record Takes (out : List ℕ) (c : Controller) (p : List ℕ) (r : After) : Type 0 where
   pub answer : r .answer ≡ Answers (length p) (length (drawn c p))
   pub output : r .output ≡ written (drawn c p) out
+  pub wrong : r .wrong ≡ wrongIn (judged (stateOf c) p)
   pub state : stateOf (r .controller) ≡ next (stateOf c) p
   pub ready : Ready (r .controller)
   pub boundary : Between (receiverIn (r .controller))
@@ -127,6 +128,7 @@ module _ (out : List ℕ) (l : 64 ≤ length out) (c : Controller) (k : Ready c)
       record {
         answer = ap (λ (r : After). r .answer) e ∙ ap (λ (m : List ℕ). Answers (length p) (length m)) (response-same c k p i);
         output = ap (λ (r : After). r .output) e ∙ ap (λ (m : List ℕ). written m out) (response-same c k p i);
+        wrong = ap (λ (r : After). r .wrong) e ∙ ap wrongIn (judged-same c k p i);
         state = ap (λ (r : After). stateOf (r .controller)) e ∙ state-same c k p i;
         ready = stays-in-rule c (p ++ b) out k l;
         boundary = subst (λ (r : After). Between (receiverIn (r .controller))) (sym e) (between-packet (receiverIn c) p i);
@@ -140,19 +142,47 @@ module _ (out : List ℕ) (l : 64 ≤ length out) (c : Controller) (k : Ready c)
 between-of : {c : Controller} → Boundary c → Between (receiverIn c)
 between-of q = record { header = q .ready .header; received = q .received }
 
+-- What packets give one after the other, and all that is followed of a stream: Follows, and the byte that is wrong beside each response.
+
+-- what a packet gives
+abbrev replyTo : State → List ℕ → Reply
+replyTo a p = record { response = response (a .settings) (arrived p) (judged a p); wrong = wrongIn (judged a p) }
+
+replies : State → List (List ℕ) → List Reply
+replies a [] = []
+replies a (p ∷ ps) = replyTo a p ∷ replies (next a p) ps
+
+reply-responses : (a : State) (ps : List (List ℕ)) → map (λ (x : Reply). x .response) (replies a ps) ≡ responses a ps
+unfolding replies responses
+reply-responses a [] = refl
+reply-responses a (p ∷ ps) = ap {B = List (List ℕ)} (λ xs. response (a .settings) (arrived p) (judged a p) ∷ xs) (reply-responses (next a p) ps)
+
+reply-wrong : (a : State) (ps : List (List ℕ)) → map (λ (x : Reply). x .wrong) (replies a ps) ≡ map wrongIn (judgements a ps)
+unfolding replies judgements
+reply-wrong a [] = refl
+reply-wrong a (p ∷ ps) = ap {B = List (Option ℕ)} (λ xs. wrongIn (judged a p) ∷ xs) (reply-wrong (next a p) ps)
+
+record Replies (c : Controller) (b : List ℕ) (r : Served Controller Reply) : Type 0 where
+  given : r .given ≡ replies (stateOf c) (packets b)
+  ends : stateOf (r .state) ≡ after (stateOf c) (packets b)
+  base : Receiver
+  boundary : base .received ≡ 0
+  unfinished : receiverIn (r .state) ≡ with 0 base (rest b)
+  ready : Ready (r .state)
+
 -- The stream at once, packet by packet.
 module _ (out : List ℕ) (l : 64 ≤ length out) where
   -- the claim for one stream
   abbrev Claim : List ℕ → Type 0
-  Claim b = (c : Controller) → Boundary c → Follows c b (servedOne (serves out) c b)
+  Claim b = (c : Controller) → Boundary c → Replies c b (servedOne (serves out) c b)
 
   follows-none : (b : List ℕ) → hasPacket b ≡ false → Claim b
-  unfolding servedOne callsOn responses after receiverWaiting
+  unfolding servedOne callsOn replies after receiverWaiting
   follows-none b h c q =
       let e = takes-part out l c (q .ready) (between-of q) b h in
       rw e
       (record {
-        given = sym (ap (responses (stateOf c)) (packets-none b h));
+        given = sym (ap (replies (stateOf c)) (packets-none b h));
         ends = sym (ap (after (stateOf c)) (packets-none b h));
         base = receiverIn c;
         boundary = q .received;
@@ -162,24 +192,24 @@ module _ (out : List ℕ) (l : 64 ≤ length out) where
 
   -- one packet more
   follows-more : (p b : List ℕ) → IsPacket p → Claim b → Claim (p ++ b)
-  unfolding servedOne callsOn responses after written
+  unfolding servedOne callsOn replies after written
   follows-more p b i ih c q =
       let t = takes-packet out l c (q .ready) (between-of q) p b i in
       let d : Controller = receiveCall c (p ++ b) out .controller in
-      let m : List ℕ = drawn c p in
+      let m : Reply = replyTo (stateOf c) p in
       let n : length (p ++ b) ≡ length p + length b = length-append p b in
       let e : serves out c (p ++ b) ≡ record { taken = length p; gives = some m; state = d } =
-      rw (t .answer, t .output, take-at m (drop (length m) out) (length m) refl) in
+      rw (t .answer, t .output, t .wrong, take-at (drawn c p) (drop (length (drawn c p)) out) (length (drawn c p)) refl) in
       let more : callsOn (serves out) (length (p ++ b)) d (drop (length p) (p ++ b)) ≡ servedOne (serves out) d b =
       ap (callsOn (serves out) (length (p ++ b)) d) (drop-at p b (length p) refl)
       ∙ same-calls (serves out) Ready (endpoint-streams out l) (length (p ++ b)) (suc (length b)) d b (t .ready) (omega (arith, i .least)) (omega arith) in
       let f : servedOne (serves out) c (p ++ b) ≡ record { given = m ∷ servedOne (serves out) d b .given; state = servedOne (serves out) d b .state } =
-      ap (λ (x : Call Controller (List ℕ)). andThen (x .gives) (x .state) (callsOn (serves out) (length (p ++ b)) (x .state) (drop (x .taken) (p ++ b)))) e
-      ∙ ap (λ (x : Served Controller (List ℕ)). andThen (some m) d x) more in
+      ap (λ (x : Call Controller Reply). andThen (x .gives) (x .state) (callsOn (serves out) (length (p ++ b)) (x .state) (drop (x .taken) (p ++ b)))) e
+      ∙ ap (λ (x : Served Controller Reply). andThen (some m) d x) more in
       let g = ih d (record { ready = t .ready; received = t .boundary .received }) in
-      subst (Follows c (p ++ b)) (sym f)
+      subst (Replies c (p ++ b)) (sym f)
       (record {
-        given = rw (packets-cons p b i) (ap {B = List (List ℕ)} (λ xs. m ∷ xs) (g .given ∙ ap (λ (a : State). responses a (packets b)) (t .state)));
+        given = rw (packets-cons p b i) (ap {B = List Reply} (λ xs. m ∷ xs) (g .given ∙ ap (λ (a : State). replies a (packets b)) (t .state)));
         ends = rw (packets-cons p b i) (g .ends ∙ ap (λ (a : State). after a (packets b)) (t .state));
         base = g .base;
         boundary = g .boundary;
@@ -190,7 +220,24 @@ module _ (out : List ℕ) (l : 64 ≤ length out) where
   follows-once : (b : List ℕ) → Claim b
   follows-once = packet-induction Claim follows-none follows-more
 
+-- All of a stream, however it was cut.
+all-played : (c : Controller) (b : List ℕ) (s : Sending b) → Boundary c → Replies c b (repliesTo c s)
+all-played c b s q =
+    subst (Replies c b) (sym (at-once (s .outs 0) (s .room 0) c b s (q .ready))) (follows-once (s .outs 0) (s .room 0) b c q)
+
 -- Responses and settings follow document 01.
 pub follows-played : (c : Controller) (b : List ℕ) (s : Sending b) → Boundary c → Follows c b (sentTo c s)
 follows-played c b s q =
-    subst (Follows c b) (sym (at-once (s .outs 0) (s .room 0) c b s (q .ready))) (follows-once (s .outs 0) (s .room 0) b c q)
+    let r = all-played c b s q in
+    record {
+      given = ap (map (λ (x : Reply). x .response)) (r .given) ∙ reply-responses (stateOf c) (packets b);
+      ends = r .ends;
+      base = r .base;
+      boundary = r .boundary;
+      unfinished = r .unfinished;
+      ready = r .ready;
+    }
+
+-- And beside each response stands the byte that is wrong.
+pub wrong-played : (c : Controller) (b : List ℕ) (s : Sending b) → Boundary c → wrongTo c s ≡ map wrongIn (judgements (stateOf c) (packets b))
+wrong-played c b s q = ap (map (λ (x : Reply). x .wrong)) (all-played c b s q .given) ∙ reply-wrong (stateOf c) (packets b)

@@ -22,7 +22,7 @@ use Rattle.command.specs.Carry.{settingsAfter}
 use Rattle.command.specs.Controller.{transferOf, heldIn, transferIn, receiverIn, inRule}
 use Rattle.command.specs.Endpoint.{takenBy, arrivedIn, judgedIn, responseIn, registersOf, carriedOut, After, waiting, answered, receiveCall}
 use Rattle.command.specs.Lent.{isAnswered}
-use Rattle.command.specs.Sending.{shown, serves, Sending, sentTo, Ready}
+use Rattle.command.specs.Sending.{Reply, shown, serves, Sending, repliesTo, sentTo, Ready}
 use Rattle.command.specs.declared.controller.Controller.{Controller}
 use Rattle.command.proofs.rules.Laws.{kept-by, in-rule-of}
 use Rattle.command.proofs.transfer.Laws.{held-length}
@@ -147,7 +147,7 @@ module _ (out : List ℕ) (l : 64 ≤ length out) where
       let e = sym (ap (λ (r : After). shown r .gives) (call-answers c a out k l h)) ∙ g in
       let z : _≡_ {A = ℕ} 0 1 = cc in absurd (omega arith))
 
-  some-answers : (c : Controller) (a e : List ℕ) → Ready c → serves out c a .gives ≡ some e → missing (receiverIn c) a ≤ length a
+  some-answers : (c : Controller) (a : List ℕ) (e : Reply) → Ready c → serves out c a .gives ≡ some e → missing (receiverIn c) a ≤ length a
   some-answers c a e k g =
       lt-cases (length a) (missing (receiverIn c) a)
       (λ h.
@@ -213,8 +213,12 @@ any-output =
     }
 
 -- However the byte stream was cut, it is as if it came at once.
-pub at-once : (out : List ℕ) → 64 ≤ length out → (c : Controller) (b : List ℕ) (s : Sending b) → Ready c → sentTo c s ≡ servedOne (serves out) c b
+pub at-once : (out : List ℕ) → 64 ≤ length out → (c : Controller) (b : List ℕ) (s : Sending b) → Ready c → repliesTo c s ≡ servedOne (serves out) c b
 at-once = sent-at-once serves Ready 64 any-output
+
+-- so that every way of sending the same bytes gives the same
+pub replies-anyhow : (c : Controller) (b : List ℕ) (s t : Sending b) → Ready c → repliesTo c s ≡ repliesTo c t
+replies-anyhow c b s t k = at-once (s .outs 0) (s .room 0) c b s k ∙ sym (at-once (s .outs 0) (s .room 0) c b t k)
 
 -- and a head in rule stays so
 pub sent-in-rule : (c : Controller) (b : List ℕ) (s : Sending b) → Ready c → Ready (sentTo c s .state)
@@ -222,5 +226,5 @@ unfolding servedOne
 sent-in-rule c b s k =
     let out = s .outs 0 in
     let l = s .room 0 in
-    subst (λ (r : Served Controller (List ℕ)). Ready (r .state)) (sym (at-once out l c b s k))
+    subst (λ (r : Served Controller Reply). Ready (r .state)) (sym (at-once out l c b s k))
     (keeps-calls (serves out) Ready (endpoint-streams out l) (suc (length b)) c b k)
