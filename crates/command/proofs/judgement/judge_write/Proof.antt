@@ -1,13 +1,15 @@
 -- `judge_write` meets its contract: by what reading the data found, then test by test.
-use mathlib.Core.Bool.{Bool}
+use mathlib.Core.Bool.{Bool, cond}
 use mathlib.Core.List.{_++_}
-use mathlib.Core.Path.{_≡_, refl, sym, ap, _∙_}
+use mathlib.Core.Path.{_≡_, refl, sym, _∙_}
 use borrow.Author.Needs.{needs}
 use denote.Ref.{now}
-use Rattle.command.specs.Rules.{fieldsOf, allowed, wrongByte}
+use Rattle.command.specs.Rules.{fieldsOf, allowed}
 use Rattle.command.specs.Value.{commandIn, valuesIn}
 use Rattle.command.specs.Inner.{isNothing}
+use Rattle.command.specs.Faults.{modeFault}
 use Rattle.command.specs.Judgement.{judgeWrite}
+use Rattle.command.specs.declared.judgement.Judgement.the-variants.{Error, Write}
 use Rattle.command.specs.declared.rules.WrongByte.{WrongByte}
 use Rattle.command.proofs.rules.Laws.{tested}
 use Rattle.command.proofs.judgement.Laws.{judgeParsed, write-parsed}
@@ -38,22 +40,19 @@ returns-2 c =
     let v = checked .before .before in
     rw (c .value .ensures, checked .wrong-byte .ensures) (rw (v .v .given .1, rule checked (told .enum-told2 .given .1)) at (read (v .before .before)))
 
-returns-3 : tie.Need-returns-3
-returns-3 c =
-    let told = c .before .before in
+-- the values are allowed, and the run is blocked or not
+free : (c : tie.After-blocked) {b : Bool} → c .blocked .result ≡ b
+    → let v = c .before .before .before .before .before in
+    let a = v .before .before .before .before .before .args in
+    cond b (Error modeFault) (Write (v .v .given .0 .0)) ≡ judgeWrite (a .c) (a .mode) (now (a .held) ++ now (a .payload))
+free c e =
+    let told = c .before in
     let checked = told .before .before in
     let v = checked .before .before in
-    rw (v .v .given .1, rule checked (told .enum-told3 .given .1), ← c .before .blocked .ensures, c .if1 .taken) at (read (v .before .before))
-
-returns-4 : tie.Need-returns-4
-returns-4 c =
-    let told = c .before .before in
-    let checked = told .before .before in
-    let v = checked .before .before in
-    rw (v .v .given .1, rule checked (told .enum-told3 .given .1), ← c .before .blocked .ensures, c .if1 .left) at (read (v .before .before))
+    rw (v .v .given .1, rule checked (told .enum-told3 .given .1), ← c .blocked .ensures, e) at (read (v .before .before))
 
 pub judge-write-spec : {M : Type 1} → statement M
 judge-write-spec =
     tie.close
     (tie.spec (λ c κs. search needs) (λ c. search needs) (λ c. search needs) returns (λ c κs. search needs) (λ c. search needs) (λ c κs. search needs) returns-2
-    (λ c. search needs) (λ c κs. search needs) returns-3 returns-4)
+    (λ c. search needs) (λ c κs. search needs) (λ c. free (c .before) (c .if1 .taken)) (λ c. free (c .before) (c .if1 .left)))
