@@ -1,7 +1,10 @@
 // A simulated head: host bytes on standard input, responses on standard output, from a fresh head
 // until the input ends. Each packet is answered as soon as it is complete; one that the input leaves
-// unfinished is not answered. It stops when the output is closed or a read fails.
+// unfinished is not answered. Which data byte is wrong where a packet draws code 03 is said on standard
+// error. It stops when the output is closed or a read fails.
 use command::Controller;
+use command::WrongByte;
+use libc::STDERR_FILENO;
 use libc::STDIN_FILENO;
 use libc::STDOUT_FILENO;
 use packet::Answer;
@@ -60,6 +63,20 @@ fn send(a: Answer, out: &[u8], left: usize) -> Sent
     }
 }
 
+// Says which byte is wrong in a write of this command. That nobody reads it is no reason to stop.
+fn tell(cmd1: u8, cmd2: u8, wrong: WrongByte) {
+    let WrongByte::At(byte) = wrong else {
+        return;
+    };
+    io::write_all(STDERR_FILENO, b"head_sim: ");
+    io::print_hex(STDERR_FILENO, cmd1 as u64, 2);
+    io::write_all(STDERR_FILENO, b" ");
+    io::print_hex(STDERR_FILENO, cmd2 as u64, 2);
+    io::write_all(STDERR_FILENO, b" draws code 03: wrong from data byte ");
+    io::print_decimal(STDERR_FILENO, byte as u64);
+    io::write_all(STDERR_FILENO, b" on\n");
+}
+
 // One call: takes bytes until they end or one packet is complete, and answers it.
 fn serve(c: Controller, input: &[u8]) -> Served
     ensures { λ r. ⌜ r .taken ≤ length (now (input .entry)) ⌝ }
@@ -68,7 +85,10 @@ fn serve(c: Controller, input: &[u8]) -> Served
     let s = command::receive(c, input, &mut out);
     let next = s.controller;
     let answer = s.answer;
+    let wrong = s.wrong;
     let t = send(answer, &out, input.len());
+    // The response repeats the packet's CMD1 and CMD2.
+    tell(out[1], out[2], wrong);
     Served {
         controller: next,
         taken: t.taken,
