@@ -3,8 +3,8 @@
 // or range that it prints. There `1..=8` is from 1 to 8, both included, and `_` every other value. A row that
 // prints no values stands as a comment. What document 01 decides, where the guide is silent, says so. Some
 // rows of one byte have a wider number here, as the settings have (settings.rt). The check of a command
-// names the byte with which the first row begins whose value is not allowed; a rule between two rows stands
-// at the later one. At the end: what the checks mean for a write and for all settings.
+// answers with the byte that the first row begins with whose value is not allowed; a rule between two rows
+// stands at the later one. At the end: what the checks mean for a write and for all settings.
 use crate::settings::DisplaySetting;
 use crate::settings::Drive;
 use crate::settings::LedCurrent;
@@ -20,7 +20,7 @@ ghost use mathlib.Core.Path.{_≡_};
 ghost use mathlib.Core.List.{[], _∷_};
 ghost use mathlib.Core.Bool.{not, _&&_, _||_};
 ghost use lib.Dec.{eqb, leb};
-ghost use Rattle.command.specs.Rules.{listed, mostPatterns, oneOf, pairs, within, field, firstWrong, currentFields, colourFields, settingFields, inputFields, videoFields, sequenceFields, allowed as allowedIn, wrongByte, blocked as blockedIn, settingsInRule};
+ghost use Rattle.command.specs.Rules.{listed, mostPatterns, oneOf, pairs, within, firstWrong, modeFields, patternFields, currentFields, colourFields, settingFields, inputFields, videoFields, sequenceFields, runFields, allowed as allowedIn, wrongByte, blocked as blockedIn, settingsInRule};
 ghost use Rattle.command.specs.Inner.{isNothing};
 ghost use Rattle.command.specs.Value.{commandIn, valuesIn};
 
@@ -33,7 +33,7 @@ pub enum WrongByte {
 }
 
 impl WrongByte {
-    pub(crate) fn nothing(self) -> bool
+    pub(crate) fn is_nothing(self) -> bool
         ensures { λ r. ⌜ r ≡ isNothing self ⌝ }
     {
         match self {
@@ -43,51 +43,40 @@ impl WrongByte {
     }
 }
 
-// A command that has one row, which begins with byte 0.
-fn one_row(right: bool) -> WrongByte
-    ensures { λ r. ⌜ r ≡ firstWrong (field 0 right ∷ []) ⌝ }
-{
-    if right {
-        WrongByte::Nothing
-    } else {
-        WrongByte::At(0)
-    }
-}
-
 // 3.2 Current Display Mode (01 01), Table 3, Byte 0.
-fn display_mode(m: u8) -> bool
-    ensures { λ r. ⌜ r ≡ oneOf m (0 ∷ 1 ∷ 2 ∷ 4 ∷ []) ⌝ }
+fn display_mode(m: u8) -> WrongByte
+    ensures { λ r. ⌜ r ≡ firstWrong (modeFields m) ⌝ }
 {
     match m {
-        0x00 => true, // Static Image
-        0x01 => true, // Internal Test Pattern
-        0x02 => true, // HDMI Video Input
-        0x03 => false, // Reserved
-        0x04 => true, // Pattern Sequence Display
-        _ => false,
+        0x00 => WrongByte::Nothing, // Static Image
+        0x01 => WrongByte::Nothing, // Internal Test Pattern
+        0x02 => WrongByte::Nothing, // HDMI Video Input
+        0x03 => WrongByte::At(0), // Reserved
+        0x04 => WrongByte::Nothing, // Pattern Sequence Display
+        _ => WrongByte::At(0),
     }
 }
 
 // 3.3 Current Test Pattern (01 03), Table 4, Byte 0.
-fn test_pattern(p: u8) -> bool
-    ensures { λ r. ⌜ r ≡ leb p 13 ⌝ }
+fn test_pattern(p: u8) -> WrongByte
+    ensures { λ r. ⌜ r ≡ firstWrong (patternFields p) ⌝ }
 {
     match p {
-        0x00 => true, // 14x8 Checkerboard (default)
-        0x01 => true, // Solid black
-        0x02 => true, // Solid white
-        0x03 => true, // Solid green
-        0x04 => true, // Solid blue
-        0x05 => true, // Solid red
-        0x06 => true, // Vertical lines (1-white, 7-black)
-        0x07 => true, // Horizontal lines (1-white, 7-black)
-        0x08 => true, // Vertical lines (1-white, 1-black)
-        0x09 => true, // Horizontal lines (1-white, 1-black)
-        0x0A => true, // Diagonal lines
-        0x0B => true, // Vertical Gray Ramps
-        0x0C => true, // Horizontal Gray Ramps
-        0x0D => true, // ANSI 4×4 Checkerboard
-        _ => false,
+        0x00 => WrongByte::Nothing, // 14x8 Checkerboard (default)
+        0x01 => WrongByte::Nothing, // Solid black
+        0x02 => WrongByte::Nothing, // Solid white
+        0x03 => WrongByte::Nothing, // Solid green
+        0x04 => WrongByte::Nothing, // Solid blue
+        0x05 => WrongByte::Nothing, // Solid red
+        0x06 => WrongByte::Nothing, // Vertical lines (1-white, 7-black)
+        0x07 => WrongByte::Nothing, // Horizontal lines (1-white, 7-black)
+        0x08 => WrongByte::Nothing, // Vertical lines (1-white, 1-black)
+        0x09 => WrongByte::Nothing, // Horizontal lines (1-white, 1-black)
+        0x0A => WrongByte::Nothing, // Diagonal lines
+        0x0B => WrongByte::Nothing, // Vertical Gray Ramps
+        0x0C => WrongByte::Nothing, // Horizontal Gray Ramps
+        0x0D => WrongByte::Nothing, // ANSI 4×4 Checkerboard
+        _ => WrongByte::At(0),
     }
 }
 
@@ -426,13 +415,13 @@ fn count_in_limit(depth: u8, count: u8) -> bool
 }
 
 // 3.11 Start Pattern Sequence (04 02), Table 16, Byte 0.
-fn sequence_run(r: u32) -> bool
-    ensures { λ a. ⌜ a ≡ leb r 1 ⌝ }
+fn sequence_run(r: u32) -> WrongByte
+    ensures { λ w. ⌜ w ≡ firstWrong (runFields r) ⌝ }
 {
     match r {
-        0 => true, // Stop Pattern Sequence
-        1 => true, // Start Pattern Sequence
-        _ => false,
+        0 => WrongByte::Nothing, // Stop Pattern Sequence
+        1 => WrongByte::Nothing, // Start Pattern Sequence
+        _ => WrongByte::At(0),
     }
 }
 
@@ -441,15 +430,15 @@ pub(crate) fn wrong_byte(v: Value) -> WrongByte
     ensures { λ r. ⌜ r ≡ wrongByte (commandIn v) (valuesIn v) ⌝ }
 {
     match v {
-        Value::DisplayMode(m) => one_row(display_mode(m)),
-        Value::TestPattern(p) => one_row(test_pattern(p)),
+        Value::DisplayMode(m) => display_mode(m),
+        Value::TestPattern(p) => test_pattern(p),
         Value::LedCurrent(q) => led_current(q),
         Value::StaticColour(q) => static_colour(q),
         Value::DisplaySetting(q) => display_setting(q),
         Value::VideoInput(q) => video_input(q),
         Value::VideoMode(q) => video_mode(q),
         Value::PatternSequence(q) => pattern_sequence(q),
-        Value::SequenceRun(r) => one_row(sequence_run(r)),
+        Value::SequenceRun(r) => sequence_run(r),
     }
 }
 
@@ -457,7 +446,7 @@ pub(crate) fn wrong_byte(v: Value) -> WrongByte
 pub(crate) fn allowed(v: Value) -> bool
     ensures { λ r. ⌜ r ≡ allowedIn (commandIn v) (valuesIn v) ⌝ }
 {
-    wrong_byte(v).nothing()
+    wrong_byte(v).is_nothing()
 }
 
 // Run 1 outside display mode 4 (document 01; the guide has no such rule).
@@ -475,14 +464,14 @@ pub(crate) fn blocked(v: Value, mode: u8) -> bool
 pub(crate) fn settings_in_rule(s: Settings) -> bool
     ensures { λ r. ⌜ r ≡ settingsInRule s ⌝ }
 {
-    display_mode(s.mode)
-        && test_pattern(s.pattern)
-        && led_current(s.current).nothing()
-        && static_colour(s.colour).nothing()
-        && display_setting(s.setting).nothing()
-        && video_mode(s.video).nothing()
-        && pattern_sequence(s.sequence).nothing()
-        && sequence_run(s.run)
+    display_mode(s.mode).is_nothing()
+        && test_pattern(s.pattern).is_nothing()
+        && led_current(s.current).is_nothing()
+        && static_colour(s.colour).is_nothing()
+        && display_setting(s.setting).is_nothing()
+        && video_mode(s.video).is_nothing()
+        && pattern_sequence(s.sequence).is_nothing()
+        && sequence_run(s.run).is_nothing()
         && !blocked(Value::SequenceRun(s.run), s.mode)
-        && video_input(s.input).nothing()
+        && video_input(s.input).is_nothing()
 }

@@ -9,7 +9,7 @@ use Rattle.command.proofs.rules.allowed.Tie as tie
 returns : tie.Need-returns
 returns c =
     let v = c .before .before .args .v in
-    tested (fieldsOf (commandIn v) (valuesIn v)) (c .before .wrong-byte .ensures) (c .nothing .ensures)
+    tested (fieldsOf (commandIn v) (valuesIn v)) (c .before .wrong-byte .ensures) (c .is-nothing .ensures)
 
 pub allowed-spec : {M : Type 1} → statement M
 allowed-spec = tie.close (tie.spec (λ c κs. search needs) (λ c κs. search needs) returns)
