@@ -13,7 +13,7 @@ use Rattle.packet.specs.Calls.{Served}
 use Rattle.packet.specs.Writer.{written}
 use Rattle.packet.proofs.Cases.{cond-cases, and-left, and-right, never}
 use Rattle.command.specs.Table.{commandOf, layout}
-use Rattle.command.specs.Rules.{Field, fieldsOf, allRight, firstWrong, allowed, wrongByte, byteOf}
+use Rattle.command.specs.Rules.{Field, fieldsOf, allValid, firstWrong, allowed, wrongByte, byteOf}
 use Rattle.command.specs.Data.{splitAll}
 use Rattle.command.specs.Faults.{Arrived, faults, listIf, codesOf}
 use Rattle.command.specs.Transfer.{Transfer}
@@ -91,7 +91,7 @@ names-none : (w : WrongByte) → (byteOf w ≡ none) ↔ (isNothing w ≡ true)
 names-none (At n) = (λ e. let z : _≡_ {A = ℕ} 0 1 = cc in absurd (omega arith), λ e. never e)
 names-none Nothing = (λ _. refl, λ _. refl)
 
-named-none : (fs : List Field) → (byteOf (firstWrong fs) ≡ none) ↔ (allRight fs ≡ true)
+named-none : (fs : List Field) → (byteOf (firstWrong fs) ≡ none) ↔ (allValid fs ≡ true)
 named-none fs =
     let e = nothing-wrong fs in
     let n = names-none (firstWrong fs) in
@@ -99,9 +99,9 @@ named-none fs =
 
 first-named : (fs : List Field) (n : ℕ) → byteOf (firstWrong fs) ≡ some n → FirstNotAllowed fs n
 first-named [] n h = let z : _≡_ {A = ℕ} 0 1 = cc in absurd (omega arith)
-first-named (f ∷ fs) n h = go (f .right) refl h (first-named fs n)
+first-named (f ∷ fs) n h = go (f .valid) refl h (first-named fs n)
   where
-    go : (t : Bool) → f .right ≡ t → byteOf (cond t (firstWrong fs) (At (f .byte))) ≡ some n → (byteOf (firstWrong fs) ≡ some n → FirstNotAllowed fs n)
+    go : (t : Bool) → f .valid ≡ t → byteOf (cond t (firstWrong fs) (At (f .byte))) ≡ some n → (byteOf (firstWrong fs) ≡ some n → FirstNotAllowed fs n)
         → FirstNotAllowed (f ∷ fs) n
     go true t h i =
         let r = i h in
@@ -110,21 +110,21 @@ first-named (f ∷ fs) n h = go (f .right) refl h (first-named fs n)
           wrong = r .wrong;
           behind = r .behind;
           fields = ap {B = List Field} (λ x. f ∷ x) (r .fields);
-          allowed = rw t (r .allowed);
+          passed = rw t (r .passed);
           fails = r .fails;
           byte = r .byte;
         }
-    go false t h i = record { before = []; wrong = f; behind = fs; fields = refl; allowed = refl; fails = t; byte = cc }
+    go false t h i = record { before = []; wrong = f; behind = fs; fields = refl; passed = refl; fails = t; byte = cc }
 
-wrong-after : (before : List Field) (f : Field) (behind : List Field) → allRight before ≡ true → f .right ≡ false
+wrong-after : (before : List Field) (f : Field) (behind : List Field) → allValid before ≡ true → f .valid ≡ false
     → firstWrong (before ++ (f ∷ behind)) ≡ At (f .byte)
 wrong-after [] f behind h e = rw e
-wrong-after (g ∷ before) f behind h e = rw (and-left (g .right) _ h) (wrong-after before f behind (and-right (g .right) _ h) e)
+wrong-after (g ∷ before) f behind h e = rw (and-left (g .valid) _ h) (wrong-after before f behind (and-right (g .valid) _ h) e)
 
 named-first : (fs : List Field) (n : ℕ) → FirstNotAllowed fs n → byteOf (firstWrong fs) ≡ some n
 named-first fs n r =
     ap (λ (x : List Field). byteOf (firstWrong x)) (r .fields)
-    ∙ ap byteOf (wrong-after (r .before) (r .wrong) (r .behind) (r .allowed) (r .fails))
+    ∙ ap byteOf (wrong-after (r .before) (r .wrong) (r .behind) (r .passed) (r .fails))
     ∙ ap some (r .byte)
 
 -- What the receive call reports.

@@ -11,7 +11,7 @@ use lib.ListN.{take}
 use Rattle.packet.specs.Answer.{Answers}
 use Rattle.packet.specs.Stream.{packets, bytesIn}
 use Rattle.command.specs.Table.{layout}
-use Rattle.command.specs.Rules.{Field, fieldsOf, allRight, allowed, wrongByte, byteOf}
+use Rattle.command.specs.Rules.{Field, fieldsOf, allValid, allowed, wrongByte, byteOf}
 use Rattle.command.specs.Data.{splitAll}
 use Rattle.command.specs.Transfer.{Closed}
 use Rattle.command.specs.Faults.{Arrived, valueFault}
@@ -40,8 +40,8 @@ pub record FirstNotAllowed (fs : List Field) (n : ℕ) : Type 0 where
   pub wrong : Field
   pub behind : List Field
   pub fields : fs ≡ before ++ (wrong ∷ behind)
-  pub allowed : allRight before ≡ true
-  pub fails : wrong .right ≡ false
+  pub passed : allValid before ≡ true
+  pub fails : wrong .valid ≡ false
   pub byte : wrong .byte ≡ n
 
 -- The receive call.

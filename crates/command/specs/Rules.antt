@@ -49,10 +49,10 @@ mostPatterns depth = 1 + 95 / depth
 -- A field of a command's data: the first of its bytes, counted from 0, and whether its value is allowed.
 pub record Field : Type 0 where
   pub byte : ℕ
-  pub right : Bool
+  pub valid : Bool
 
 abbrev pub field : ℕ → Bool → Field
-field n b = record { byte = n; right = b }
+field n b = record { byte = n; valid = b }
 
 -- any value is allowed
 abbrev pub anyValue : ℕ → Bool
@@ -144,18 +144,18 @@ fieldsOf command.PatternSequence v = sequenceFields (sequenceFrom v)
 fieldsOf command.SequenceRun v = runFields (getD v 0 0)
 
 -- each of these fields is allowed
-abbrev pub allRight : List Field → Bool
-allRight [] = true
-allRight (f ∷ fs) = f .right && allRight fs
+abbrev pub allValid : List Field → Bool
+allValid [] = true
+allValid (f ∷ fs) = f .valid && allValid fs
 
 -- the first byte of the first of them that is not
 abbrev pub firstWrong : List Field → WrongByte
 firstWrong [] = Nothing
-firstWrong (f ∷ fs) = cond (f .right) (firstWrong fs) (At (f .byte))
+firstWrong (f ∷ fs) = cond (f .valid) (firstWrong fs) (At (f .byte))
 
 -- the values of a command are allowed
 abbrev pub allowed : Command → List ℕ → Bool
-allowed c v = allRight (fieldsOf c v)
+allowed c v = allValid (fieldsOf c v)
 
 -- "the first data byte, counted from 0, of the first field not allowed, in layout order" (request 4), or none
 abbrev pub wrongByte : Command → List ℕ → WrongByte

@@ -10,6 +10,7 @@ ghost use Prim.Native.Nat.{_≤_, _<_};
 ghost use Rattle.packet.specs.Packet.{typeOf, flagsOf, payloadLength};
 ghost use Rattle.command.specs.Inner.{isOpenIn, openForIn, faultsOf};
 ghost use Rattle.command.specs.Controller.{heldIn, transferInRule};
+ghost use Rattle.command.specs.declared.rules.WrongByte.the-variants as wrong;
 ghost use Rattle.command.specs.Faults.{wrongCommand, tooLong, wrongOrder, anyFault, valueFault};
 
 // The error codes, by the names that the command guide gives them: which of them hold; and with 03 the byte
@@ -58,8 +59,8 @@ impl Codes {
     };
 
     // 03 alone, and the byte that it is about.
-    pub(crate) fn value(wrong: WrongByte) -> Codes
-        ensures { λ k. ⌜ k ≡ valueFault wrong ⌝ }
+    pub(crate) fn value(byte: u8) -> Codes
+        ensures { λ k. ⌜ k ≡ valueFault (wrong.At byte) ⌝ }
     {
         Codes {
             command: false,
@@ -69,7 +70,7 @@ impl Codes {
             checksum: false,
             format: false,
             continuation: false,
-            wrong,
+            wrong: WrongByte::At(byte),
         }
     }
 

@@ -57,8 +57,8 @@ fn judge_write(c: Command, mode: u8, held: &[u8], payload: &[u8]) -> Judgement
         return Judgement::Error(Codes::SIZE);
     };
     let wrong = wrong_byte(v);
-    if let WrongByte::At(_) = wrong {
-        return Judgement::Error(Codes::value(wrong));
+    if let WrongByte::At(byte) = wrong {
+        return Judgement::Error(Codes::value(byte));
     }
     if blocked(v, mode) {
         return Judgement::Error(Codes::MODE);

@@ -10,7 +10,7 @@ use lib.ListN.{length, getD}
 use Rattle.packet.proofs.Cases.{bool-cases, cond-cases, and-left, and-right, and-both}
 use Rattle.command.specs.Data.{Fit}
 use Rattle.command.specs.Table.{table, cmd1For, cmd2For, find, commandOf, same, layout}
-use Rattle.command.specs.Rules.{Field, allRight, firstWrong, allowed, blocked, allAllowed, settingsInRule}
+use Rattle.command.specs.Rules.{Field, allValid, firstWrong, allowed, blocked, allAllowed, settingsInRule}
 use Rattle.command.specs.Settings.{valuesOf, factory, valuesAfter, store}
 use Rattle.command.specs.Value.{widths}
 use Rattle.command.specs.Inner.{isNothing}
@@ -28,12 +28,12 @@ wrong-step : (b : Bool) (n : ℕ) (w : WrongByte) (t : Bool) → isNothing w ≡
 wrong-step true n w t e = e
 wrong-step false n w t e = refl
 
-pub nothing-wrong : (fs : List Field) → isNothing (firstWrong fs) ≡ allRight fs
+pub nothing-wrong : (fs : List Field) → isNothing (firstWrong fs) ≡ allValid fs
 nothing-wrong [] = refl
-nothing-wrong (f ∷ fs) = wrong-step (f .right) (f .byte) (firstWrong fs) (allRight fs) (nothing-wrong fs)
+nothing-wrong (f ∷ fs) = wrong-step (f .valid) (f .byte) (firstWrong fs) (allValid fs) (nothing-wrong fs)
 
 -- what the code's test says of a check
-pub tested : (fs : List Field) {w : WrongByte} {t : Bool} → w ≡ firstWrong fs → t ≡ isNothing w → t ≡ allRight fs
+pub tested : (fs : List Field) {w : WrongByte} {t : Bool} → w ≡ firstWrong fs → t ≡ isNothing w → t ≡ allValid fs
 tested fs e f = f ∙ ap isNothing e ∙ nothing-wrong fs
 
 -- the settings keep the rules

@@ -35,10 +35,11 @@ returns c = rw (c .enum-told .given .1) at (read (c .before .before))
 
 returns-2 : tie.Need-returns-2
 returns-2 c =
-    let told = c .before in
-    let checked = told .before .before in
+    let named = c .before .before in
+    let checked = named .before .before in
     let v = checked .before .before in
-    rw (c .value .ensures, checked .wrong-byte .ensures) (rw (v .v .given .1, rule checked (told .enum-told2 .given .1)) at (read (v .before .before)))
+    rw (c .value .ensures, sym (named .wrong .given .1) ∙ checked .wrong-byte .ensures)
+    (rw (v .v .given .1, rule checked (named .wrong .given .1)) at (read (v .before .before)))
 
 -- the values are allowed, and the run is blocked or not
 free : (c : tie.After-blocked) {b : Bool} → c .blocked .result ≡ b
@@ -49,7 +50,7 @@ free c e =
     let told = c .before in
     let checked = told .before .before in
     let v = checked .before .before in
-    rw (v .v .given .1, rule checked (told .enum-told3 .given .1), ← c .blocked .ensures, e) at (read (v .before .before))
+    rw (v .v .given .1, rule checked (told .enum-told2 .given .1), ← c .blocked .ensures, e) at (read (v .before .before))
 
 pub judge-write-spec : {M : Type 1} → statement M
 judge-write-spec =
