@@ -223,7 +223,7 @@ pub record Demand1 : Type 0 where
       let t = takenBy c input in
       Answering (λ n. r .answer ≡ Refuses n) out 64 3 (OutOfRule c) ((r .controller ≡ c) × (r .output ≡ out))
       (r .answer ≡ cond (t .complete) (Answers (t .taken) (length (responseIn c t))) (Waits (length input)))
-  -- playing is no call of the table: settings out of rule are not played, they stay and the first byte offends
+  -- playing is no call of the table: settings out of rule are not played, they stay and the place is 0
   pub play : (s : Settings) (b : List ℕ) → SettingsOutOfRule s → (endSettings s b ≡ s) × (endOffence s b ≡ some 0)
   -- the encoder: 1 and 2; else the length of one whole packet
   pub encode : (v : Value) (out : List ℕ)

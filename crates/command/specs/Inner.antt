@@ -4,7 +4,7 @@ use mathlib.Core.Path.{_≡_}
 use mathlib.Core.Bool.{Bool, true, false, cond, not, _&&_}
 use mathlib.Core.List.{List, [], _∷_, _++_}
 use mathlib.Core.Option.{Option, none, some}
-use lib.Dec.{eqb, ltb}
+use lib.Dec.{eqb}
 use lib.ListN.{length, take, getD}
 use Rattle.packet.specs.Number.{bytesOf}
 use Rattle.command.specs.Table.{table, hasCode, layout, sizeOf}
@@ -98,9 +98,10 @@ faultsOf c opened ours n type flags size right =
       wrong = Nothing;
     }
 
--- a place by a number: none where it is the end or behind it. The play call's code counts so; its contract is by `offence`
-abbrev pub placeBefore : ℕ → ℕ → Option ℕ
-placeBefore end n = cond (ltb n end) (some n) none
+-- a place that is known, or else another: the first of the packets that are not acknowledged, known so far (law going-packet of player/Turns)
+abbrev pub orElse : Option ℕ → Option ℕ → Option ℕ
+orElse none o = o
+orElse (some n) o = some n
 
 -- the state of the head by its settings, its transfer's numbers and the array of the transfer's data: stateOf of a controller that has these, by computing
 abbrev pub stateIn : Settings → TransferState → List ℕ → State

@@ -93,16 +93,16 @@ unfoldable pub unfinished : List ℕ → Option ℕ
 unfinished b = cond (isNil (halfSent b)) none (some (bytesIn (packets b)))
 
 -- the earlier of two places
-abbrev pub earliest : Option ℕ → Option ℕ → Option ℕ
-earliest none o = o
-earliest (some m) none = some m
-earliest (some m) (some n) = some (min m n)
+abbrev pub earlier : Option ℕ → Option ℕ → Option ℕ
+earlier none o = o
+earlier (some m) none = some m
+earlier (some m) (some n) = some (min m n)
 
--- none exactly when each packet is acknowledged, and no packet or transfer is left half sent
+-- the earliest of the three
 unfoldable pub offence : Settings → List ℕ → Option ℕ
-offence s b = earliest (notAcknowledged 0 (from s) (packets b)) (earliest (unfinished b) (leftOpen 0 0 (from s) (packets b)))
+offence s b = earlier (notAcknowledged 0 (from s) (packets b)) (earlier (unfinished b) (leftOpen 0 0 (from s) (packets b)))
 
--- The play call: settings out of rule are not played. They stay, and the first byte offends.
+-- The play call: settings out of rule are not played. They stay, and the place is 0, also where there is no byte.
 abbrev pub endSettings : Settings → List ℕ → Settings
 endSettings s b = cond (settingsInRule s) (play s b .settings) s
 

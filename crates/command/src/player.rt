@@ -12,9 +12,9 @@ use packet::HEADER;
 use packet::Next;
 use packet::next_packet;
 ghost use mathlib.Core.Path.{_≡_};
-ghost use mathlib.Core.Bool.{true, cond, _||_};
-ghost use mathlib.Core.Option.{none};
-ghost use Prim.Native.Nat.{_≤_, min};
+ghost use mathlib.Core.Bool.{true, cond};
+ghost use mathlib.Core.Option.{none, some};
+ghost use Prim.Native.Nat.{_≤_};
 ghost use lib.Dec.{ltb};
 ghost use lib.ListN.{length};
 ghost use Rattle.packet.specs.Packet.{rightSum};
@@ -23,8 +23,8 @@ ghost use Rattle.command.specs.Faults.{arrived};
 ghost use Rattle.command.specs.Judgement.{judge as judgeOf};
 ghost use Rattle.command.specs.Controller.{transferIn, transferInRule};
 ghost use Rattle.command.specs.Response.{acknowledged};
-ghost use Rattle.command.specs.Inner.{isOpenIn, placeBefore};
-ghost use Rattle.command.specs.Player.{earliest, endSettings, endOffence, placeOf};
+ghost use Rattle.command.specs.Inner.{isOpenIn, orElse};
+ghost use Rattle.command.specs.Player.{earlier as earlierOf, endSettings, endOffence, placeOf};
 
 // One whole packet, its checksum right or not.
 fn judge_packet(mode: u8, t: TransferState, buffer: &[u8], p: &[u8], right: bool) -> Judgement
@@ -44,58 +44,79 @@ pub enum Offence {
     Nothing,
 }
 
+impl Offence {
+    // This one, or the other where there is none.
+    fn or(self, other: Offence) -> Offence
+        ensures { λ r. ⌜ placeOf r ≡ orElse (placeOf self) (placeOf other) ⌝ }
+    {
+        match self {
+            Offence::At(_) => self,
+            Offence::Nothing => other,
+        }
+    }
+
+    // The earlier of two.
+    fn earlier(self, other: Offence) -> Offence
+        ensures { λ r. ⌜ placeOf r ≡ earlierOf (placeOf self) (placeOf other) ⌝ }
+    {
+        let Offence::At(m) = self else {
+            return other;
+        };
+        let Offence::At(n) = other else {
+            return self;
+        };
+        if n < m { other } else { self }
+    }
+}
+
 // Where a play ended.
 pub struct Played {
     pub settings: Settings,
     pub offence: Offence,
 }
 
-// Where the first packet begins that was not acknowledged, after the packet at a place was judged; `end`
-// or more where each was.
-fn first_refused(refused: usize, end: usize, at: usize, j: Judgement) -> usize
-    ensures { λ r. ⌜ r ≡ cond (ltb refused end || acknowledged j) refused at ⌝ }
+// A packet that is not acknowledged offends.
+fn unacknowledged(at: usize, j: Judgement) -> Offence
+    ensures { λ r. ⌜ placeOf r ≡ cond (acknowledged j) none (some at) ⌝ }
 {
-    if (refused < end) | (response_type(j) == packet::WRITE_RESPONSE) {
-        refused
+    if response_type(j) == packet::WRITE_RESPONSE {
+        Offence::Nothing
     } else {
-        at
+        Offence::At(at)
     }
 }
 
-// Where the packet begins that opened the transfer that may be open after the one at a place: `t` is the
-// transfer before that one.
+// So does an unfinished one: what stands behind the last whole packet.
+fn unfinished(at: usize, end: usize) -> Offence
+    ensures { λ r. ⌜ placeOf r ≡ cond (ltb at end) (some at) none ⌝ }
+{
+    if at < end {
+        Offence::At(at)
+    } else {
+        Offence::Nothing
+    }
+}
+
+// And the packet that opened the transfer that is left open.
+fn left_open(t: TransferState, opener: usize) -> Offence
+    ensures { λ r. ⌜ placeOf r ≡ cond (isOpenIn t) (some opener) none ⌝ }
+{
+    if t.active == 0 {
+        Offence::Nothing
+    } else {
+        Offence::At(opener)
+    }
+}
+
+// Where the packet begins that opened the transfer which is open after the packet at a place, if one is:
+// `t` is the transfer before that packet.
 fn opener_with(t: TransferState, opener: usize, at: usize) -> usize
     ensures { λ r. ⌜ r ≡ cond (isOpenIn t) opener at ⌝ }
 {
     if t.active == 0 { at } else { opener }
 }
 
-fn earlier(m: usize, n: usize) -> usize
-    ensures { λ r. ⌜ r ≡ min m n ⌝ }
-{
-    if m < n { m } else { n }
-}
-
-fn place_before(end: usize, n: usize) -> Offence
-    ensures { λ r. ⌜ placeOf r ≡ placeBefore end n ⌝ }
-{
-    if n < end {
-        Offence::At(n)
-    } else {
-        Offence::Nothing
-    }
-}
-
-// What the earliest offence is of bytes that were played up to a place: behind it is an unfinished packet,
-// where it is not their end.
-fn offence_at(refused: usize, at: usize, t: TransferState, opener: usize, end: usize) -> Offence
-    ensures { λ r. ⌜ placeOf r ≡ earliest (placeBefore end refused) (earliest (placeBefore end at) (cond (isOpenIn t) (placeBefore end opener) none)) ⌝ }
-{
-    let opened = opener_with(t, opener, end);
-    place_before(end, earlier(refused, earlier(at, opened)))
-}
-
-// Settings out of rule are not played: they stay, and the first byte offends.
+// Settings out of rule are not played: they stay, and the place is 0, also where there is no byte.
 pub fn play(s: Settings, b: &[u8]) -> Played
     ensures { λ r. ⌜ (r .settings ≡ endSettings s (now (b .entry))) × (placeOf (r .offence) ≡ endOffence s (now (b .entry))) ⌝ }
 {
@@ -109,23 +130,23 @@ pub fn play(s: Settings, b: &[u8]) -> Played
     let mut settings = s;
     let mut transfer = TransferState::NONE;
     let mut buffer = [0u8; HOLD];
-    // No packet is refused yet, and none has opened a transfer.
-    let mut refused = end;
+    // The first packet that is not acknowledged, and the opener of the open transfer.
+    let mut first = Offence::Nothing;
     let mut opener: usize = 0;
     let mut at: usize = 0;
     while at < end {
         let Next::Packet { size, right } = next_packet(b, at) else {
-            let offence = offence_at(refused, at, transfer, opener, end);
-            return Played { settings, offence };
+            break;
         };
         let p = &b[at..at + size];
         let j = judge_packet(settings.mode, transfer, &buffer, p, right);
-        refused = first_refused(refused, end, at, j);
+        first = first.or(unacknowledged(at, j));
         opener = opener_with(transfer, opener, at);
         settings = settings_after(settings, j);
         transfer = transfer_after(transfer, &mut buffer, &p[HEADER..size - 1], j);
         at += size;
     }
-    let offence = offence_at(refused, at, transfer, opener, end);
+    let left = unfinished(at, end).earlier(left_open(transfer, opener));
+    let offence = first.earlier(left);
     Played { settings, offence }
 }

@@ -14,7 +14,7 @@ use Rattle.packet.proofs.Cases.{lt-cases, and-left, and-right, never}
 use Rattle.packet.proofs.StreamLaws.{packet-within, rest-within}
 use Rattle.command.specs.Response.{acknowledged}
 use Rattle.command.specs.Transfer.{Transfer, Closed, Opened, isOpen}
-use Rattle.command.specs.Player.{State, from, judged, next, judgements, judgementsOn, after, play, allAcknowledged, isNil, halfSent, notAcknowledged, leftOpen, unfinished, earliest, offence}
+use Rattle.command.specs.Player.{State, from, judged, next, judgements, judgementsOn, after, play, allAcknowledged, isNil, halfSent, notAcknowledged, leftOpen, unfinished, earlier, offence}
 use Rattle.command.specs.Request4.{Offends, NotAcknowledged, Unfinished, LeftOpen, Earliest}
 use Rattle.command.specs.declared.settings.Settings.{Settings}
 
@@ -29,7 +29,7 @@ least-map : {P Q : ℕ → Type 0} → ((n : ℕ) → P n → Q n) → ((n : ℕ
 least-map f g none l = λ m h. l m (g m h)
 least-map f g (some n) l = (f n (l .0), λ m h. l .1 m (g m h))
 
-least-either : (P Q : ℕ → Type 0) (o p : Option ℕ) → Least P o → Least Q p → Least (λ n. P n ⊎ Q n) (earliest o p)
+least-either : (P Q : ℕ → Type 0) (o p : Option ℕ) → Least P o → Least Q p → Least (λ n. P n ⊎ Q n) (earlier o p)
 least-either P Q none none f g = λ m h. ⊎-elim (f m) (g m) h
 least-either P Q none (some n) f g = (inr (g .0), λ m h. ⊎-elim (λ x. absurd (f m x)) (g .1 m) h)
 least-either P Q (some m) none f g = (inl (f .0), λ k h. ⊎-elim (f .1 k) (λ x. absurd (g k x)) h)
@@ -233,7 +233,7 @@ module _ (s : Settings) (b : List ℕ) where
   kinds-least : Least Kinds (offence s b)
   unfolding offence
   kinds-least =
-      least-either (Refused 0 (from s) (packets b)) (λ n. Half n ⊎ LeavesOpen 0 0 (from s) (packets b) n) (notAcknowledged 0 (from s) (packets b)) (earliest (unfinished b) (leftOpen 0 0 (from s) (packets b)))
+      least-either (Refused 0 (from s) (packets b)) (λ n. Half n ⊎ LeavesOpen 0 0 (from s) (packets b) n) (notAcknowledged 0 (from s) (packets b)) (earlier (unfinished b) (leftOpen 0 0 (from s) (packets b)))
       (refused-least 0 (from s) (packets b))
       (least-either Half (LeavesOpen 0 0 (from s) (packets b)) (unfinished b) (leftOpen 0 0 (from s) (packets b)) half-least (opens-least 0 0 (from s) (packets b)))
 
@@ -279,7 +279,7 @@ abbrev absent : Option ℕ → Bool
 absent none = true
 absent (some n) = false
 
-absent-both : (o p : Option ℕ) → absent (earliest o p) ≡ (absent o && absent p)
+absent-both : (o p : Option ℕ) → absent (earlier o p) ≡ (absent o && absent p)
 absent-both none p = refl
 absent-both (some m) none = refl
 absent-both (some m) (some n) = refl
@@ -323,7 +323,7 @@ module _ (s : Settings) (b : List ℕ) where
   absent-is : absent (offence s b) ≡ (allAcknowledged (judgementsOn s b) && (isNil (halfSent b) && not (isOpen (play s b .transfer))))
   unfolding offence play
   absent-is =
-      absent-both (notAcknowledged 0 (from s) (packets b)) (earliest (unfinished b) (leftOpen 0 0 (from s) (packets b)))
+      absent-both (notAcknowledged 0 (from s) (packets b)) (earlier (unfinished b) (leftOpen 0 0 (from s) (packets b)))
       ∙ ap₂ _&&_ (absent-refused 0 (from s) (packets b))
       (absent-both (unfinished b) (leftOpen 0 0 (from s) (packets b)) ∙ ap₂ _&&_ (absent-half b) (absent-open 0 0 (from s) (packets b)))
 

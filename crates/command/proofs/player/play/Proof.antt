@@ -1,8 +1,8 @@
 -- `play` meets its contract. The loop's invariant: what is left of the bytes goes on from where the play stands.
 use Prim.Native.Nat.{ℕ, _+_, _≤_, _<_, _-_}
 use mathlib.Core.Path.{_≡_, refl, sym, ap, _∙_}
-use mathlib.Core.Bool.{true, false, cond}
-use mathlib.Core.Option.{Option, none}
+use mathlib.Core.Bool.{true, false}
+use mathlib.Core.Logic.{⊎-elim}
 use native.Mathlib.Omega.{arith}
 use lib.ListN.{length, take, drop, length-drop}
 use lib.Seq.{length-take-le}
@@ -14,20 +14,20 @@ use Rattle.packet.proofs.NumberLaws.{bytes-at, bytes-take, bytes-drop}
 use Rattle.packet.proofs.StreamLaws.{size-most, next-none, no-header}
 use Rattle.command.specs.Rules.{settingsInRule}
 use Rattle.command.specs.Controller.{transferInRule}
-use Rattle.command.specs.Inner.{isOpenIn, stateIn, placeBefore}
+use Rattle.command.specs.Inner.{stateIn}
 use Rattle.command.proofs.transfer.Laws.{open-is}
-use Rattle.command.specs.Player.{judged, earliest, endSettings, endOffence}
+use Rattle.command.specs.Player.{judged, placeOf}
 use Rattle.command.proofs.carry.Laws.{buffer-kept}
 use Rattle.command.proofs.player.Turns.{Going, Turned, going-start, going-packet, going-end, next-packet, rule-kept}
 use Rattle.command.proofs.player.play.Statement.{statement}
 use Rattle.command.proofs.player.play.Tie as tie
 
 abbrev Inv-loop : tie.InvT-loop
-Inv-loop b end settings₀ transfer₀ buffer₀ refused₀ opener₀ at₀ settings transfer buffer refused opener at =
-    (at ≤ length b) × (transferInRule transfer ≡ true) × (length buffer ≡ 1024) × Going settings₀ b (stateIn settings transfer buffer) refused opener at
+Inv-loop b end settings₀ transfer₀ buffer₀ first₀ opener₀ at₀ settings transfer buffer first opener at =
+    (at ≤ length b) × (transferInRule transfer ≡ true) × (length buffer ≡ 1024) × Going settings₀ b (stateIn settings transfer buffer) (placeOf first) opener at
 
 abbrev μ-loop : tie.MeasureT-loop
-μ-loop b end settings₀ transfer₀ buffer₀ refused₀ opener₀ at₀ settings transfer buffer refused opener at = length b - at
+μ-loop b end settings₀ transfer₀ buffer₀ first₀ opener₀ at₀ settings transfer buffer first opener at = length b - at
 
 -- the settings are in rule past the test
 ruled : (c : tie.Else1 Inv-loop μ-loop) → settingsInRule (c .before .before .before .args .s) ≡ true
@@ -44,31 +44,15 @@ loop-holds c =
     let a = c .before .before .before .args in
     (omega arith, refl, refl, going-start (a .s) (now (a .b)))
 
--- no packet stands at the place: what is left there is an unfinished one, or nothing
-ended : (l : tie.At-loop Inv-loop μ-loop) {o : Option ℕ}
-    → let a = l .before .before .before .before .args in
-    let n = length (now (a .b)) in
-    hasPacket (drop (l .loop .at) (now (a .b))) ≡ false
-    → o ≡ earliest (placeBefore n (l .loop .refused)) (earliest (placeBefore n (l .loop .at)) (cond (isOpenIn (l .loop .transfer)) (placeBefore n (l .loop .opener)) none))
-    → (l .loop .settings ≡ endSettings (a .s) (now (a .b))) × (o ≡ endOffence (a .s) (now (a .b)))
-ended l h e =
-    let g = going-end (l .loop .inv .3) h (l .loop .inv .0) in
-    rw (ruled (l .before)) (g .0, e ∙ rw (← open-is (l .loop .transfer) (l .loop .inv .1) (l .loop .buffer)) (g .1))
-
-returns-2 : tie.Need-returns-2 Inv-loop μ-loop
-returns-2 c =
-    let t = c .before in
-    ended (t .before .before .before .before) (next-none _ (sym (t .before .before .next-packet .ensures) ∙ t .enum-told .given .1)) (c .offence-at .ensures)
-
 -- the packet that stands at the place, and the play after it
 turn : (c : tie.After-size Inv-loop μ-loop)
     → let l = c .before .before .before .before in
     let a = l .before .before .before .before .args in
-    Turned (a .s) (now (a .b)) (stateIn (l .loop .settings) (l .loop .transfer) (l .loop .buffer)) (l .loop .refused) (l .loop .opener) (l .loop .at)
+    Turned (a .s) (now (a .b)) (stateIn (l .loop .settings) (l .loop .transfer) (l .loop .buffer)) (placeOf (l .loop .first)) (l .loop .opener) (l .loop .at)
     (c .size .given .0 .0) (c .size .given .0 .1 .0)
 turn c =
     let l = c .before .before .before .before in
-    going-packet (l .loop .inv .3) (c .size .given .0 .0) (c .size .given .0 .1 .0) (sym (c .before .before .next-packet .ensures) ∙ c .size .given .1) (c .before .before .before .loop-test .taken)
+    going-packet (l .loop .inv .3) (c .size .given .0 .0) (c .size .given .0 .1 .0) (sym (c .before .before .next-packet .ensures) ∙ c .size .given .1) (l .loop .inv .0)
 
 -- all of it is in the slice
 within : (c : tie.After-size Inv-loop μ-loop)
@@ -106,7 +90,7 @@ counted c =
 
 -- the packet, seen from where its payload is handed on
 abbrev part : tie.After-buffer2 Inv-loop μ-loop → tie.After-size Inv-loop μ-loop
-part c = c .before .before .before .before .before .before .before .before
+part c = c .before .before .before .before .before .before .before .before .before
 
 judge-packet-requires : tie.Need-judge-packet-requires Inv-loop μ-loop
 judge-packet-requires c κs =
@@ -118,7 +102,7 @@ judge-packet-requires c κs =
 
 transfer-after-requires : tie.Need-transfer-after-requires Inv-loop μ-loop
 transfer-after-requires c κs =
-    let k = c .before .before .before .before .before .before .before .before .before in
+    let k = c .before .before .before .before .before .before .before .before .before .before in
     let l = k .before .before .before .before in
     let n = counted k in
     let p = take (k .size .given .0 .0) (drop (l .loop .at) (now (l .before .before .before .before .args .b))) in
@@ -128,7 +112,8 @@ loop-again : tie.Need-loop-again Inv-loop μ-loop
 unfolding judged
 loop-again c =
     let f = c .before .before .before .before .before in
-    let g = f .before in
+    let u = f .before in
+    let g = u .before in
     let k = g .before .before .before .before in
     let l = k .before .before .before .before in
     let o = l .loop in
@@ -146,29 +131,48 @@ loop-again c =
         x,
         y,
         next-packet (o .settings) (o .transfer) (o .buffer) p (o .inv .1) (o .inv .2) (t .whole) z j,
-        f .first-refused .ensures,
+        f .or .ensures,
+        u .unacknowledged .ensures,
         c .before .before .before .before .opener-with .ensures,
         ← open-is (o .transfer) (o .inv .1) (o .buffer),
         j,
       ) (t .going),
     )
 
-returns-3 : tie.Need-returns-3 Inv-loop μ-loop
-returns-3 c =
-    let l = c .before .before in
-    ended l (no-header _ (omega (arith, length-drop (l .loop .at) (now (l .before .before .before .before .args .b)), c .before .loop-test .left))) (c .offence-at2 .ensures)
+-- no packet stands where the loop is left: nothing is left there, or too few bytes for one
+none-there : (c : tie.Left-loop Inv-loop μ-loop) → hasPacket (drop (c .before .loop .at) (now (c .before .before .before .before .before .args .b))) ≡ false
+none-there c =
+    let l = c .before in
+    let b = now (l .before .before .before .before .args .b) in
+    ⊎-elim
+    (λ w. no-header (drop (l .loop .at) b) (omega (arith, length-drop (l .loop .at) b, w .left)))
+    (λ w. next-none (drop (l .loop .at) b) (sym (w .1 .ensures) ∙ w .3 .given .1))
+    (c .loop-test .came)
+
+returns-2 : tie.Need-returns-2 Inv-loop μ-loop
+returns-2 c =
+    let e = c .before in
+    let o = e .before in
+    let u = o .before in
+    let l = u .before .before in
+    let g = going-end (l .loop .inv .3) (none-there (u .before)) (l .loop .inv .0) in
+    rw (ruled (l .before)) (
+      g .0,
+      c .earlier2 .ensures
+          ∙ rw (e .earlier .ensures, u .unfinished .ensures, o .left-open .ensures, ← open-is (l .loop .transfer) (l .loop .inv .1) (l .loop .buffer)) (g .1),
+    )
 
 pub play-spec : {M : Type 1} → statement M
 play-spec =
     tie.close
     (tie.spec Inv-loop μ-loop (λ c κs. search needs) returns loop-holds (λ c κs. search needs) (λ c. search needs)
-    (λ c. search needs) (λ c κs. search needs) returns-2
+    (λ c. search needs)
     (λ c. omega (arith, within (c .before))) (λ c. search needs) (λ c. search needs)
     (λ c. let h = turn (c .before) .within in omega arith)
     (λ c. let l = c .before .before .before .before .before .before .before in omega (arith, l .loop .inv .2))
-    judge-packet-requires (λ c κs. search needs) (λ c κs. search needs) (λ c κs. search needs)
+    judge-packet-requires (λ c κs. search needs) (λ c κs. search needs) (λ c κs. search needs) (λ c κs. search needs)
     (λ c. omega (arith, turn (part c) .least)) (λ c. omega (arith, turn (part c) .least)) (λ c. omega (arith, turn (part c) .least))
     (λ c. let h = counted (part c) .0 in rw (handed (part c)) (omega (arith, turn (part c) .least, h)))
-    transfer-after-requires (λ c. omega (arith, within (c .before .before .before .before .before .before .before .before .before .before)))
-    (λ c. let t = turn (c .before .before .before .before .before .before .before .before .before .before) in omega (arith, t .least, t .within)) loop-again
-    (λ c κs. search needs) returns-3)
+    transfer-after-requires (λ c. omega (arith, within (c .before .before .before .before .before .before .before .before .before .before .before)))
+    (λ c. let t = turn (c .before .before .before .before .before .before .before .before .before .before .before) in omega (arith, t .least, t .within)) loop-again
+    (λ c κs. search needs) (λ c κs. search needs) (λ c κs. search needs) (λ c κs. search needs) returns-2)
