@@ -1,7 +1,8 @@
 -- Playing bytes from given settings, and the play call.
-use Prim.Native.Nat.{ℕ, _+_, min}
+use Prim.Native.Nat.{ℕ, _+_, _≤_, min}
+use mathlib.Core.Path.{_≡_}
 use mathlib.Core.Bool.{Bool, true, false, _&&_, cond}
-use mathlib.Core.List.{List, [], _∷_}
+use mathlib.Core.List.{List, [], _∷_, _++_}
 use mathlib.Core.Option.{Option, none, some}
 use lib.ListN.{length}
 use Rattle.packet.specs.Calls.{joined}
@@ -101,6 +102,32 @@ earlier (some m) (some n) = some (min m n)
 -- the earliest of the three
 unfoldable pub offence : Settings → List ℕ → Option ℕ
 offence s b = earlier (notAcknowledged 0 (from s) (packets b)) (earlier (unfinished b) (leftOpen 0 0 (from s) (packets b)))
+
+-- The same once more as the request lists it, by equations: `offence` is the earliest of these (`Request4.offends`). Bytes that are played from the settings s offend at
+-- this place:
+pub data Offends (s : Settings) (b : List ℕ) : ℕ → Type 0 where
+  -- "the first byte of the offending packet": one that is not acknowledged
+  NotAcknowledged : (before : List (List ℕ)) (p : List ℕ) (behind : List (List ℕ)) → packets b ≡ before ++ (p ∷ behind)
+      → acknowledged (judged (after (from s) before) p) ≡ false
+      → Offends s b (bytesIn before)
+  -- "or of the unfinished one"
+  Unfinished : (halfSent b ≡ [] → ⊥) → Offends s b (bytesIn (packets b))
+  -- "or of the packet that opened the transfer left open": none was open before it, and one is after it and after each packet behind it
+  LeftOpen : (before : List (List ℕ)) (p : List ℕ) (behind : List (List ℕ)) → packets b ≡ before ++ (p ∷ behind)
+      → after (from s) before .transfer ≡ Closed
+      → ((early late : List (List ℕ)) → behind ≡ early ++ late → after (from s) (before ++ (p ∷ early)) .transfer ≡ Closed → ⊥)
+      → Offends s b (bytesIn before)
+
+-- the packet that does, or what there is of the unfinished one
+abbrev pub offending : {s : Settings} {b : List ℕ} {n : ℕ} → Offends s b n → List ℕ
+offending (NotAcknowledged before p behind c e) = p
+offending {b = b} (Unfinished h) = halfSent b
+offending (LeftOpen before p behind c z w) = p
+
+-- "of these the earliest"
+pub record Earliest (s : Settings) (b : List ℕ) (n : ℕ) : Type 0 where
+  pub offends : Offends s b n
+  pub first : (m : ℕ) → Offends s b m → n ≤ m
 
 -- The play call: settings out of rule are not played. They stay, and the place is 0, also where there is no byte.
 abbrev pub endSettings : Settings → List ℕ → Settings

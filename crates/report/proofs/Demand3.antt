@@ -18,11 +18,11 @@ use Rattle.command.specs.Encoder.{standardList, Writes, writes, listCall}
 use Rattle.command.proofs.RulesLaws.{Kept, Fits, in-rule-of, kept-factory, fits-factory}
 use Rattle.command.proofs.EncoderLists.{standard-plays, standard-acknowledged, standard-finished, standard-size}
 use Rattle.command.proofs.PlayerLaws.{Holding, holding-play, kept-play}
-use Rattle.command.proofs.Request4.{request-4}
+use Rattle.command.proofs.PlayerOffences.{earliest-named, none-named}
 use Rattle.report.specs.Record.{Out}
 use Rattle.report.specs.Report.{Trial, Report, readReport, scoreAt, endFrom, firstLowest, sameSettings, checkReport, Verdict, Accepted, Refused, verdictOf, verdict}
 use Rattle.report.specs.Claim.{recordOf, headOf, trialOf, trialRecords, reportOf, FirstLowest, Ships, Claim, Listed, Standard, Lists, Demand3}
-use Rattle.report.specs.Refusals.{Fault, F17, F18, F19, Refusal, Later}
+use Rattle.report.specs.Refusals.{shippingByte, Fault, F17, F18, F19, Refusal, Later}
 use Rattle.report.proofs.record.Laws.{run, pass, pass-none}
 use Rattle.report.proofs.same.Laws.{settings-true, settings-refl}
 use Rattle.report.proofs.trials.Laws.{lowest-true, lowest-back}
@@ -30,13 +30,13 @@ use Rattle.report.proofs.verdict.Laid.{reading-whole}
 use Rattle.report.proofs.verdict.Reading.{Ends, bad, good, then, needs, needs-none, Laid, reading-report}
 
 -- The test of what ships, and the claim: nothing offends.
-pub clean-true : (f : Settings) (b : List ℕ) → offence f b ≡ none → Ships f b
-clean-true f b h =
-    let c = request-4 .clean f b .0 h in
+pub ships-none : (f : Settings) (b : List ℕ) → offence f b ≡ none → Ships f b
+ships-none f b h =
+    let c = none-named f b .0 h in
     record { acknowledged = c .0; closed = c .1; finished = c .2 }
 
-pub clean-back : (f : Settings) (b : List ℕ) → Ships f b → offence f b ≡ none
-clean-back f b s = request-4 .clean f b .1 (s .acknowledged, s .closed, s .finished)
+pub nothing-offends : (f : Settings) (b : List ℕ) → Ships f b → offence f b ≡ none
+nothing-offends f b s = none-named f b .1 (s .acknowledged, s .closed, s .finished)
 
 -- From the verdict to the claim: the report was read, and passed the last three tests.
 record Passed (r : List ℕ) (p : Report) : Type 0 where
@@ -56,13 +56,13 @@ checking r p k =
     let a = play factory (p .shipping) .settings in
     let b = endFrom factory (p .trials) (p .winner) in
     let four : p .place + 6 ≡ 14 + length (trialRecords (p .trials)) = omega (arith, k .put) in
-    let ten : (n : ℕ) → p .place + 10 + n ≡ 18 + length (trialRecords (p .trials)) + n = λ n. omega (arith, k .put) in
+    let ten : (n : ℕ) → p .place + 10 + n ≡ shippingByte (p .trials) n = λ n. omega (arith, k .put) in
     needs 17 (p .place) (firstLowest (p .trials) (p .winner))
     (λ e. later 17 (p .place) _ (k .put) (F17 (p .trials) (p .winner) (p .shipping) (k .keeps) (fails _ e (lowest-back (p .trials) (p .winner))))) λ w.
     let first = lowest-true (p .trials) (p .winner) (k .keeps .named) w in
     needs-none 18 (p .place + 10) (offence factory (p .shipping))
-    (λ n e. later 18 (p .place + 10 + n) _ (ten n) (F18 (p .trials) (p .winner) (p .shipping) n (k .keeps) first (request-4 .offends factory (p .shipping) n .0 e))) λ c.
-    let ships = clean-true factory (p .shipping) c in
+    (λ n e. later 18 (p .place + 10 + n) _ (ten n) (F18 (p .trials) (p .winner) (p .shipping) n (k .keeps) first (earliest-named factory (p .shipping) n .0 e))) λ c.
+    let ships = ships-none factory (p .shipping) c in
     needs 19 (p .place + 6) (sameSettings a b)
     (λ e. later 19 (p .place + 6) _ four (F19 (p .trials) (p .winner) (p .shipping) (k .keeps) first ships (fails _ e (λ q. ap (λ (x : Settings). sameSettings x b) q ∙ settings-refl b)))) λ e.
     good (record { kept = k; first = first; ships = ships; equal = settings-true a b e })
@@ -106,7 +106,7 @@ claimed r k n s c =
     (run (readReport r) (checkReport factory)
     (ap readReport (y .laid) ∙ reading-whole ts k (c .shipping) (y .scores) (y .named) (subst (λ (x : List ℕ). length x ≤ 60000) (y .laid) (c .short)))
     (pass _ 17 place _ (lowest-back ts k (c .first))
-    (pass-none _ 18 (place + 10) _ (clean-back factory (c .shipping) (c .ships))
+    (pass-none _ 18 (place + 10) _ (nothing-offends factory (c .shipping) (c .ships))
     (pass _ 19 (place + 6) _ (ap (λ (x : Settings). sameSettings x (endFrom factory ts k)) (c .equal ∙ c .ends) ∙ settings-refl (endFrom factory ts k)) refl))))
     ∙ ap₂ (λ x y. Accepted k x y) (sym (c .scored)) (sym (c .ends))
 

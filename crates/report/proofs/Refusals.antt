@@ -12,18 +12,17 @@ use Rattle.packet.specs.Number.{valueOf, bytesOf, Bytes}
 use Rattle.packet.proofs.Cases.{bool-cases}
 use Rattle.packet.proofs.NumberLaws.{value-bytes}
 use Rattle.command.specs.Settings.{factory}
-use Rattle.command.specs.Player.{play, isNil}
-use Rattle.command.specs.Request4.{Earliest}
-use Rattle.command.proofs.Request4.{request-4}
+use Rattle.command.specs.Player.{play, isNil, Earliest}
+use Rattle.command.proofs.PlayerOffences.{earliest-named}
 use Rattle.report.specs.Record.{Bad, Good, _>>=_, _>>_, need, sized, reading}
 use Rattle.report.specs.Report.{Trial, Report, readTrials, readHead, readEnd, readReport, endFrom, firstLowest, sameSettings, checkReport, Refused, verdictOf, verdict}
 use Rattle.report.specs.Claim.{recordOf, headOf, trialRecords, reportOf, Scores, Layout, FirstLowest, Ships}
-use Rattle.report.specs.Refusals.{Begins, Due, Head, More, Winner, Shipping, WrongLength, NotFour, UnderFour, NotTwo, Fault, F11, F12, F13, F14, F15, F16, F17, F18, F19, F20, Refusal, Long, Later}
+use Rattle.report.specs.Refusals.{shippingByte, Begins, Due, Head, More, Winner, Shipping, WrongLength, NotFour, UnderFour, NotTwo, Fault, F11, F12, F13, F14, F15, F16, F17, F18, F19, F20, Refusal, Long, Later}
 use Rattle.report.proofs.record.Laws.{run, stop, pass, pass-none, fail, fail-some, short-body, other-kind, wrong-size}
 use Rattle.report.proofs.same.Laws.{settings-true}
 use Rattle.report.proofs.trials.Laws.{lowest-true, lowest-back}
 use Rattle.report.proofs.verdict.Laid.{length-before, length-report, count-bound, length-there, kind-there, whole-there, reading-record, head-laid, to-trials, reading-prefix, to-winner, winner-laid, to-shipping, reading-whole}
-use Rattle.report.proofs.Demand3.{clean-back, Says, verdict-says}
+use Rattle.report.proofs.Demand3.{nothing-offends, Says, verdict-says}
 
 -- A record that is due and is refused ends the reading. Some of the trials are read, and one more is next:
 to-more : (n : ℕ) (ts : List Trial) (left : List ℕ) → n < 65536 → Scores ts → length ts < n
@@ -175,13 +174,13 @@ module _ (r : List ℕ) (l : length r ≤ 60000) where
       four = omega arith
 
       -- 18
-      not-clean : (n : ℕ) → Earliest factory ship n → verdict r ≡ Refused 18 (18 + length (trialRecords ts) + n)
+      offends-first : (n : ℕ) → Earliest factory ship n → verdict r ≡ Refused 18 (shippingByte ts n)
       unfolding checkReport
-      not-clean n h =
-          let ten : (8 + length (trialRecords ts)) + 10 + n ≡ 18 + length (trialRecords ts) + n = omega arith in
+      offends-first n h =
+          let ten : (8 + length (trialRecords ts)) + 10 + n ≡ shippingByte ts n = omega arith in
           check-bad r _ read
           (pass _ 17 (8 + length (trialRecords ts)) _ (lowest-back ts k w)
-          (fail-some _ 18 ((8 + length (trialRecords ts)) + 10) _ (request-4 .offends factory ship n .1 h) ∙ ap (Bad 18) ten))
+          (fail-some _ 18 ((8 + length (trialRecords ts)) + 10) _ (earliest-named factory ship n .1 h) ∙ ap (Bad 18) ten))
 
       -- 19
       not-same : Ships factory ship → (play factory ship .settings ≡ endFrom factory ts k → ⊥) → verdict r ≡ Refused 19 (14 + length (trialRecords ts))
@@ -191,7 +190,7 @@ module _ (r : List ℕ) (l : length r ≤ 60000) where
           let b = endFrom factory ts k in
           check-bad r _ read
           (pass _ 17 (8 + length (trialRecords ts)) _ (lowest-back ts k w)
-          (pass-none _ 18 ((8 + length (trialRecords ts)) + 10) _ (clean-back factory ship c)
+          (pass-none _ 18 ((8 + length (trialRecords ts)) + 10) _ (nothing-offends factory ship c)
           (fail _ 19 ((8 + length (trialRecords ts)) + 6) _ (fails (sameSettings a b) (settings-true a b) h) ∙ ap (Bad 19) four)))
 
 -- 10
@@ -214,7 +213,7 @@ fault-refused r l (F15 more e) = no-trials r l 1 0 more e refl refl
 fault-refused r l (F16 ts k more b z c h) = no-such-trial r l ts k more b z c h
 fault-refused r l (F20 ts k ship x more e s w) = bytes-after r l ts k ship x more e s w
 fault-refused r l (F17 ts k ship y h) = not-first r l ts k ship y h
-fault-refused r l (F18 ts k ship n y w h) = not-clean r l ts k ship y w n h
+fault-refused r l (F18 ts k ship n y w h) = offends-first r l ts k ship y w n h
 fault-refused r l (F19 ts k ship y w c h) = not-same r l ts k ship y w c h
 
 -- where a line of the table holds, the report is refused with its number and place

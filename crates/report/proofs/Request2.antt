@@ -4,8 +4,7 @@ use mathlib.Core.Path.{_≡_, sym, subst}
 use mathlib.Core.List.{List}
 use Rattle.packet.specs.Stream.{bytesIn}
 use Rattle.command.specs.Settings.{factory}
-use Rattle.command.specs.Player.{from, after}
-use Rattle.command.specs.Request4.{Offends, NotAcknowledged}
+use Rattle.command.specs.Player.{from, after, Offends, NotAcknowledged}
 use Rattle.command.specs.Request2.{ShownWhole}
 use Rattle.command.specs.declared.settings.Settings.{Settings}
 use Rattle.command.proofs.RulesLaws.{kept-factory}
@@ -13,7 +12,7 @@ use Rattle.command.proofs.Request2.{shown-whole, not-acknowledged}
 use Rattle.report.specs.Report.{Trial, endFrom}
 use Rattle.report.specs.Request2.{AsksTooMany, Request2}
 use Rattle.report.proofs.Demand3.{kept-end, accepted}
-use Rattle.report.proofs.Request4.{first-of, offending}
+use Rattle.report.proofs.Request4.{first-of, refused-18}
 
 trials-shown : (ts : List Trial) (k : ℕ) → ShownWhole (endFrom factory ts k .sequence)
 trials-shown ts k = shown-whole (endFrom factory ts k) (kept-end factory ts k kept-factory)
@@ -33,5 +32,5 @@ request-2 =
           subst (λ (x : Settings). ShownWhole (x .sequence)) (sym (c .ends)) (trials-shown (c .trials) k);
       shipped = λ r ts k ship b l y w h.
           let o = first-of factory ship (bytesIn (h .before)) (asking-offends factory ship h) in
-          (o .0, offending r b l ts k ship (o .0) y w (o .1), o .1 .first (bytesIn (h .before)) (asking-offends factory ship h));
+          (o .0, refused-18 r b l ts k ship (o .0) y w (o .1), o .1 .first (bytesIn (h .before)) (asking-offends factory ship h));
     }

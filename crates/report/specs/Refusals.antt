@@ -5,8 +5,7 @@ use mathlib.Core.List.{List, _∷_, _++_}
 use lib.ListN.{length, take}
 use Rattle.packet.specs.Number.{valueOf, bytesOf}
 use Rattle.command.specs.Settings.{factory}
-use Rattle.command.specs.Player.{play}
-use Rattle.command.specs.Request4.{Earliest}
+use Rattle.command.specs.Player.{play, Earliest}
 use Rattle.report.specs.Report.{Trial, endFrom}
 use Rattle.report.specs.Claim.{recordOf, headOf, trialRecords, reportOf, Scores, Layout, FirstLowest, Ships}
 
@@ -27,6 +26,10 @@ pub data Due (r : List ℕ) : ℕ → ℕ → List ℕ → Type 0 where
   -- one of kind 4
   Shipping : (ts : List Trial) (k : ℕ) (left : List ℕ) → Begins r (length ts) ts (recordOf 3 (bytesOf 2 k) ++ left) → k < length ts
       → Due r 4 (14 + length (trialRecords ts)) left
+
+-- the place in a report with these trials of the n-th shipping byte: they begin 4 bytes after kind 4
+abbrev pub shippingByte : List Trial → ℕ → ℕ
+shippingByte ts n = 18 + length (trialRecords ts) + n
 
 -- a body has not the length of its kind: not 4 (kind 1), under 4 (kind 2), not 2 (kind 3)
 pub data WrongLength : ℕ → ℕ → Type 0 where
@@ -59,8 +62,7 @@ pub data Fault (r : List ℕ) : ℕ → ℕ → Type 0 where
   -- winner not the first of the lowest score
   F17 : (ts : List Trial) (k : ℕ) (ship : List ℕ) → Layout r ts k ship → (FirstLowest ts k → ⊥) → Fault r 17 (8 + length (trialRecords ts))
   -- shipping bytes not all whole packets, one not answered by a write response, or a transfer left open; at the earliest byte that offends (request 4)
-  F18 : (ts : List Trial) (k : ℕ) (ship : List ℕ) (n : ℕ) → Layout r ts k ship → FirstLowest ts k → Earliest factory ship n
-      → Fault r 18 (18 + length (trialRecords ts) + n)
+  F18 : (ts : List Trial) (k : ℕ) (ship : List ℕ) (n : ℕ) → Layout r ts k ship → FirstLowest ts k → Earliest factory ship n → Fault r 18 (shippingByte ts n)
   -- shipping settings differ from the winner's end settings
   F19 : (ts : List Trial) (k : ℕ) (ship : List ℕ) → Layout r ts k ship → FirstLowest ts k → Ships factory ship
       → (play factory ship .settings ≡ endFrom factory ts k → ⊥)

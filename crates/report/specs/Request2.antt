@@ -1,5 +1,5 @@
 -- Request 2 of reports: "the report checker follow[s] the new rule, for old reports too". Of the head and its calls it is crates/command/specs/Request2.antt.
-use Prim.Native.Nat.{ℕ, _+_, _≤_}
+use Prim.Native.Nat.{ℕ, _≤_}
 use mathlib.Core.Path.{_≡_}
 use mathlib.Core.List.{List, _∷_, _++_}
 use lib.ListN.{length}
@@ -12,7 +12,8 @@ use Rattle.command.specs.Request2.{TooMany, ShownWhole, Asks}
 use Rattle.command.specs.declared.settings.Settings.{Settings}
 use Rattle.command.specs.declared.settings.PatternSequence.{PatternSequence}
 use Rattle.report.specs.Report.{Trial, endFrom, Accepted, Refused, verdict}
-use Rattle.report.specs.Claim.{trialRecords, Layout, FirstLowest}
+use Rattle.report.specs.Claim.{Layout, FirstLowest}
+use Rattle.report.specs.Refusals.{shippingByte}
 
 -- Played from these settings, a packet of the bytes b completes a write of a sequence with more patterns than its depth has.
 pub record AsksTooMany (s : Settings) (b : List ℕ) : Type 0 where
@@ -32,4 +33,4 @@ pub record Request2 : Type 0 where
   -- and a report that ships such a write, with no refusal before it, is refused with 18, at that packet or an earlier one
   pub shipped : (r : List ℕ) (ts : List Trial) (k : ℕ) (ship : List ℕ) → Bytes r → length r ≤ 60000 → Layout r ts k ship → FirstLowest ts k
       → (a : AsksTooMany factory ship)
-      → (n : ℕ) × (verdict r ≡ Refused 18 (18 + length (trialRecords ts) + n)) × (n ≤ bytesIn (a .before))
+      → (n : ℕ) × (verdict r ≡ Refused 18 (shippingByte ts n)) × (n ≤ bytesIn (a .before))

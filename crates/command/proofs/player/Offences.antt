@@ -7,15 +7,15 @@ use mathlib.Core.List.{List, [], _∷_, _++_}
 use mathlib.Core.Option.{Option, none, some}
 use native.Mathlib.Nat.{zero-add}
 use native.Mathlib.Omega.{arith}
-use lib.ListN.{length}
+use lib.ListN.{length, take, drop}
+use lib.Seq.{take-all}
 use borrow.Author.Tests.{not-true}
-use Rattle.packet.specs.Stream.{packets, bytesIn}
+use Rattle.packet.specs.Stream.{packets, bytesIn, rest}
 use Rattle.packet.proofs.Cases.{lt-cases, and-left, and-right, never}
-use Rattle.packet.proofs.StreamLaws.{packet-within, rest-within}
+use Rattle.packet.proofs.StreamLaws.{packet-there, packet-within, rest-within}
 use Rattle.command.specs.Response.{acknowledged}
 use Rattle.command.specs.Transfer.{Transfer, Closed, Opened, isOpen}
-use Rattle.command.specs.Player.{State, from, judged, next, judgements, judgementsOn, after, play, allAcknowledged, isNil, halfSent, notAcknowledged, leftOpen, unfinished, earlier, offence}
-use Rattle.command.specs.Request4.{Offends, NotAcknowledged, Unfinished, LeftOpen, Earliest}
+use Rattle.command.specs.Player.{State, from, judged, next, judgements, judgementsOn, after, play, allAcknowledged, isNil, halfSent, notAcknowledged, leftOpen, unfinished, earlier, offence, Offends, NotAcknowledged, Unfinished, LeftOpen, offending, Earliest}
 use Rattle.command.specs.declared.settings.Settings.{Settings}
 
 -- The least number of which something holds.
@@ -257,11 +257,12 @@ module _ (s : Settings) (b : List ℕ) where
   pub none-offends : offence s b ≡ none → (m : ℕ) → Offends s b m → ⊥
   none-offends e m h = subst (Least (Offends s b)) e offends-least m h
 
-  -- it is the place of a byte
-  pub within-bytes : (n : ℕ) → Offends s b n → n < length b
-  within-bytes n (NotAcknowledged before p behind c e) = packet-within b before p behind c
-  within-bytes n (Unfinished h) = rest-within b h
-  within-bytes n (LeftOpen before p behind c z w) = packet-within b before p behind c
+  -- what offends stands at its place
+  pub stands-there : (n : ℕ) (o : Offends s b n) → (take (length (offending o)) (drop n b) ≡ offending o) × (n < length b)
+  unfolding rest
+  stands-there n (NotAcknowledged before p behind c e) = (packet-there b before p behind c, packet-within b before p behind c)
+  stands-there n (Unfinished h) = (take-all (length (halfSent b)) (halfSent b) (omega arith), rest-within b h)
+  stands-there n (LeftOpen before p behind c z w) = (packet-there b before p behind c, packet-within b before p behind c)
 
   -- the place that is named is the earliest
   pub earliest-named : (n : ℕ) → (offence s b ≡ some n) ↔ Earliest s b n
@@ -315,7 +316,7 @@ absent-none : (o : Option ℕ) → (o ≡ none) ↔ (absent o ≡ true)
 absent-none none = (λ _. refl, λ _. refl)
 absent-none (some n) = (λ e. let z : _≡_ {A = ℕ} 0 1 = cc in absurd (omega arith), λ e. never e)
 
-nil-only : (l : List ℕ) → isNil l ≡ true → l ≡ []
+pub nil-only : (l : List ℕ) → isNil l ≡ true → l ≡ []
 nil-only [] h = refl
 nil-only (x ∷ l) h = never h
 

@@ -45,6 +45,10 @@ pub find-later : (d : Command) (cs : List Command) (a b : ℕ) (f : Found) → h
 unfolding find
 find-later d cs a b f e h = sym (ap (λ (t : Bool). cond t (Known d) (find a b cs)) e) ∙ h
 
+-- one command is found
+pub same-known : (x y : Command) → Known x ≡ Known y → x ≡ y
+same-known x y e = cc
+
 -- what is found has those bytes
 find-code : (cs : List Command) (a b : ℕ) (c : Command) → find a b cs ≡ Known c → (a ≡ cmd1For c) × (b ≡ cmd2For c)
 unfolding find
@@ -53,9 +57,6 @@ find-code (d ∷ cs) a b c h =
     bool-cases (hasCode a b d)
     (λ e. rw (same-known d c (sym (ap (λ (t : Bool). cond t (Known d) (find a b cs)) e) ∙ h)) at (has-code a b d e))
     (λ e. find-code cs a b c (find-later d cs a b (Known c) e h))
-  where
-    same-known : (x y : Command) → Known x ≡ Known y → x ≡ y
-    same-known x y e = cc
 
 pub known-code : (a b : ℕ) (c : Command) → commandOf a b ≡ Known c → (a ≡ cmd1For c) × (b ≡ cmd2For c)
 unfolding commandOf

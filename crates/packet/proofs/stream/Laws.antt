@@ -3,12 +3,12 @@ use Prim.Native.Nat.{ℕ, zero, suc, _+_, _*_, _-_, _<_, _≤_}
 use mathlib.Core.Path.{_≡_, refl, ap, ap₂, sym, _∙_, subst}
 use mathlib.Core.Bool.{Bool, true, false, cond, and-false}
 use mathlib.Core.List.{List, [], _∷_, _++_, append-assoc}
-use native.Mathlib.Nat.{zero-add}
 use native.Mathlib.Omega.{arith}
 use lib.Dec.{eqb, leb}
 use borrow.Author.Tests.{leb-true, le-leb, lt-leb}
 use lib.ListN.{length, take, drop, getD, length-append, take-append-drop, length-drop, List·getD-append}
 use lib.Seq.{drop-append-add, take-at, drop-at, getD-drop, getD-take, take-take, length-take-le}
+use Rattle.packet.specs.Calls.{joined}
 use Rattle.packet.specs.Number.{Bytes}
 use Rattle.packet.specs.Packet.{payloadLength, payload, checksum, rightSum}
 use Rattle.packet.specs.Stream.{nextIn, size, hasPacket, packetsIn, packets, bytesIn, rest}
@@ -143,12 +143,27 @@ rest-short b =
     (λ p x i h. ap hasPacket (rest-cons p x i) ∙ h)
     b
 
--- The packets of some bytes and what is left are all of them, so that the place of a packet, and of what is left, is that of a byte.
+-- The packets of some bytes, joined, and what is left are these bytes: each packet stands at its place.
 
-bytes-append : (ps qs : List (List ℕ)) → bytesIn (ps ++ qs) ≡ bytesIn ps + bytesIn qs
-unfolding bytesIn
-bytes-append [] qs = sym (zero-add (bytesIn qs))
-bytes-append (p ∷ ps) qs = ap (λ (n : ℕ). length p + n) (bytes-append ps qs) ∙ omega arith
+joined-append : (ps qs : List (List ℕ)) → joined (ps ++ qs) ≡ joined ps ++ joined qs
+unfolding joined
+joined-append [] qs = refl
+joined-append (p ∷ ps) qs = ap (λ (x : List ℕ). p ++ x) (joined-append ps qs) ∙ sym (append-assoc p (joined ps) (joined qs))
+
+joined-length : (ps : List (List ℕ)) → length (joined ps) ≡ bytesIn ps
+unfolding joined bytesIn
+joined-length [] = refl
+joined-length (p ∷ ps) = length-append p (joined ps) ∙ ap (λ (n : ℕ). length p + n) (joined-length ps)
+
+pub all-there : (b : List ℕ) → joined (packets b) ++ rest b ≡ b
+unfolding joined
+all-there =
+    packet-induction (λ b. joined (packets b) ++ rest b ≡ b)
+    (λ b h. rw (packets-none b h, rest-none b h))
+    (λ p b i h. rw (packets-cons p b i, rest-cons p b i) (append-assoc p (joined (packets b)) (rest b) ∙ ap (λ (x : List ℕ). p ++ x) h))
+
+bytes-all : (b : List ℕ) → bytesIn (packets b) + length (rest b) ≡ length b
+bytes-all b = omega (arith, ap length (all-there b), length-append (joined (packets b)) (rest b), joined-length (packets b))
 
 -- no packet is empty
 abbrev Filled : List (List ℕ) → Type 0
@@ -165,18 +180,28 @@ filled-at : (before : List (List ℕ)) (p : List ℕ) (behind : List (List ℕ))
 filled-at [] p behind h = h .0
 filled-at (q ∷ before) p behind h = filled-at before p behind (h .1)
 
-pub bytes-all : (b : List ℕ) → bytesIn (packets b) + length (rest b) ≡ length b
-unfolding bytesIn
-bytes-all =
-    packet-induction (λ b. bytesIn (packets b) + length (rest b) ≡ length b)
-    (λ b h. rw (packets-none b h, rest-none b h) (zero-add (length b)))
-    (λ p b i h. rw (packets-cons p b i, rest-cons p b i) (omega (arith, h, length-append p b)))
+module _ (b : List ℕ) (before : List (List ℕ)) (p : List ℕ) (behind : List (List ℕ)) (c : packets b ≡ before ++ (p ∷ behind)) where
+  apart : b ≡ joined before ++ (p ++ (joined behind ++ rest b))
+  unfolding joined
+  apart =
+      sym (all-there b)
+      ∙ ap (λ x. joined x ++ rest b) c
+      ∙ ap (λ (x : List ℕ). x ++ rest b) (joined-append before (p ∷ behind))
+      ∙ simp append-assoc
 
-pub packet-within : (b : List ℕ) (before : List (List ℕ)) (p : List ℕ) (behind : List (List ℕ)) → packets b ≡ before ++ (p ∷ behind) → bytesIn before < length b
-unfolding bytesIn
-packet-within b before p behind c =
-    let n = filled-at before p behind (subst Filled c (filled b)) in
-    omega (arith, n, bytes-all b, ap bytesIn c, bytes-append before (p ∷ behind))
+  -- the bytes from its place on begin with it
+  pub packet-there : take (length p) (drop (bytesIn before) b) ≡ p
+  packet-there =
+      let more = p ++ (joined behind ++ rest b) in
+      ap (λ (x : List ℕ). take (length p) (drop (bytesIn before) x)) apart
+      ∙ ap (take (length p)) (drop-at (joined before) more (bytesIn before) (joined-length before))
+      ∙ take-at p (joined behind ++ rest b) (length p) refl
+
+  pub packet-within : bytesIn before < length b
+  packet-within =
+      let n = filled-at before p behind (subst Filled c (filled b)) in
+      let more = p ++ (joined behind ++ rest b) in
+      omega (arith, n, ap length apart, length-append (joined before) more, length-append p (joined behind ++ rest b), joined-length before)
 
 pub rest-within : (b : List ℕ) → (rest b ≡ [] → ⊥) → bytesIn (packets b) < length b
 rest-within b h = go (rest b) refl

@@ -13,6 +13,7 @@ use Rattle.packet.specs.Number.{valueOf, bytesOf, Bytes}
 use Rattle.packet.proofs.Cases.{bool-cases, and-right, and-both}
 use Rattle.packet.proofs.NumberLaws.{bytes-take, bytes-drop, bytes-value, value-bound}
 use Rattle.command.specs.Player.{isNil}
+use Rattle.command.proofs.PlayerOffences.{nil-only}
 use Rattle.report.specs.Record.{Out, Bad, Good, _>>=_, _>>_, need, without, Piece, sized, reading}
 use Rattle.report.specs.Report.{Trial, Trials, Report, readTrials, readHead, readEnd, readReport}
 use Rattle.report.specs.Claim.{recordOf, headOf, trialOf, trialRecords, reportOf, Scores, Layout}
@@ -228,10 +229,6 @@ pub record Laid (r : List ℕ) (p : Report) : Type 0 where
   pub keeps : Layout r (p .trials) (p .winner) (p .shipping)
   pub put : p .place ≡ 8 + length (trialRecords (p .trials))
 
-pub nil-true : (b : List ℕ) → isNil b ≡ true → b ≡ []
-nil-true [] h = refl
-nil-true (x ∷ b) h = let z : _≡_ {A = ℕ} 0 1 = cc in absurd (omega arith)
-
 -- the bytes after kind 4, if there are any
 after-four : (r : List ℕ) (ts : List Trial) (k : ℕ) (ship left : List ℕ) → r ≡ reportOf ts k ship ++ left → Scores ts → k < length ts → isNil left ≡ false
     → Fault r 20 (length (reportOf ts k ship))
@@ -266,7 +263,7 @@ reading-end r ts left short begins any b =
       short = short;
       keeps =
           record {
-            laid = laid ∙ ap (λ (x : List ℕ). reportOf ts k (s .body) ++ x) (nil-true (s .left) e4) ∙ append-nil (reportOf ts k (s .body));
+            laid = laid ∙ ap (λ (x : List ℕ). reportOf ts k (s .body) ++ x) (nil-only (s .left) e4) ∙ append-nil (reportOf ts k (s .body));
             scores = begins .scores;
             named = named;
           };

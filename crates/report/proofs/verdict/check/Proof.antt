@@ -15,8 +15,7 @@ use Rattle.command.specs.Settings.{factory}
 use Rattle.command.specs.declared.settings.Settings.{Settings}
 use Rattle.command.specs.Player.{play, offence, endSettings, endOffence, placeOf}
 use Rattle.command.proofs.RulesLaws.{kept-factory, in-rule-of}
-use Rattle.command.proofs.PlayerOffences.{within-bytes}
-use Rattle.command.proofs.Request4.{request-4}
+use Rattle.command.proofs.PlayerOffences.{earliest-named, stands-there}
 use Rattle.report.specs.Report.{sameSettings}
 use Rattle.report.specs.Inner.{HeadIs, HeadAt, BestIs, BestAt, WinnerIs, WinnerAt}
 use Rattle.report.specs.declared.record.Outcome.{Outcome}
@@ -91,7 +90,7 @@ offends-within : (c : tie.After-offence) → c .offence .given .0 .0 < 60000
 offends-within c =
     let q = c .before .before in
     let d = q .before .before .before in
-    let n = within-bytes factory (ship q) _ (request-4 .offends factory (ship q) _ .0 (offends-at c) .offends) in
+    let n = stands-there factory (ship q) _ (earliest-named factory (ship q) _ .0 (offends-at c) .offends) .1 in
     let r = reportIn (start (headOf (nextOf d))) in
     let at = nextOf d .next .given .0 .0 in
     omega (arith, n, room d, length-take (length r - (at + 6 + 4)) (drop (at + 6 + 4) r), length-drop (at + 6 + 4) r)
