@@ -6,14 +6,10 @@ use command::OUTPUT;
 use command::WrongByte;
 use libc::STDERR_FILENO;
 use packet::Answer;
+use report::HEADER;
+use report::SHIPPING;
 ghost use Prim.Native.Nat.{_≤_};
 ghost use lib.ListN.{length};
-
-// The bytes in front of a record's body: the body's length and the kind, 2 bytes each.
-const RECORD_HEADER: usize = 4;
-
-// The kind of the shipping record.
-const SHIPPING: usize = 4;
 
 // Where the shipping packets stand in the report.
 struct Shipping {
@@ -64,8 +60,8 @@ fn shipping_of(r: &[u8]) -> Shipping
     ensures { λ s. ⌜ (s .from ≤ s .end) × (s .end ≤ length (now (r .entry))) ⌝ }
 {
     let mut at: usize = 0;
-    while RECORD_HEADER <= r.len() - at {
-        let body = at + RECORD_HEADER;
+    while HEADER <= r.len() - at {
+        let body = at + HEADER;
         let end = further(body, packet::word(r[at], r[at + 1]), r.len());
         if packet::word(r[at + 2], r[at + 3]) == SHIPPING {
             return Shipping { from: body, end };
@@ -196,6 +192,7 @@ fn tell_unfinished(bytes: &[u8]) {
     let size = packet::FRAME + packet::word(bytes[4], bytes[5]);
     number(b" of its ", size);
     text(b" bytes");
+    // always so of an unfinished packet; the subtraction below needs the test
     if bytes.len() < size {
         number(b" and lacks ", size - bytes.len());
     }
@@ -205,6 +202,7 @@ fn tell_unfinished(bytes: &[u8]) {
 fn tell_packet(head: Controller, bytes: &[u8], count: usize, place: usize) {
     let mut response = [0u8; OUTPUT];
     let drawn = send(head, bytes, &mut response);
+    // no packet at the place of a refusal 18 draws this
     if let Drawn::Other = drawn {
         return;
     }
@@ -219,14 +217,15 @@ fn tell_packet(head: Controller, bytes: &[u8], count: usize, place: usize) {
         Drawn::Read => text(b"draws a read response: it is a read and not a write"),
         Drawn::Opened => text(b"is acknowledged, but the transfer that it opens is left open"),
         Drawn::Unfinished => tell_unfinished(bytes),
+        // left above
         Drawn::Other => {}
     }
     number(b"; the place is byte ", place);
     text(b", counted from 0\n");
 }
 
-// Says which packet of a report is refused with 18 at this place, and why. Where no packet of the
-// shipping record starts there, nothing is said.
+// Says which packet of a report is refused with 18 at this place, and why. A packet of the shipping
+// record starts at the place that `check` gives; at any other place nothing is said.
 pub fn tell(r: &[u8], place: usize) {
     let shipping = shipping_of(r);
     let from = shipping.from;

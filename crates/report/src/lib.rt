@@ -18,6 +18,8 @@ mod verdict;
 pub use head::LONGEST;
 pub use line::LINE;
 pub use line::write_line;
+pub use record::HEADER;
 pub use record::Outcome;
+pub use record::SHIPPING;
 pub use verdict::Checked;
 pub use verdict::check;

@@ -14,10 +14,10 @@ pub(crate) const TRIAL: usize = 2;
 
 pub(crate) const WINNER: usize = 3;
 
-pub(crate) const SHIPPING: usize = 4;
+pub const SHIPPING: usize = 4;
 
 // The bytes in front of a body.
-pub(crate) const HEADER: usize = 4;
+pub const HEADER: usize = 4;
 
 // A value that was read, or the refusal that ends the reading.
 pub enum Outcome {

@@ -1,5 +1,5 @@
--- `step` meets its contract: that of `command::serve`, its answer as numbers, and 0 behind them.
-use mathlib.Core.Path.{refl, ap}
+-- `step` meets its contract: that of `command::serve`, its answer as numbers, and the wrong byte as one.
+use mathlib.Core.Path.{ap}
 use denote.Ref.{now}
 use borrow.Author.Needs.{needs}
 use Rattle.packet.proofs.Answering.{numbers-say}
