@@ -50,7 +50,7 @@ fn same(given: &[u8], name: &[u8]) -> bool {
     true
 }
 
-// Whether the first argument asks for words. A longer one does not fit, and is another.
+// Whether the first argument asks for words. A longer one than these 9 bytes does not fit, and is another.
 fn explain_asked() -> bool {
     let mut given = [0u8; 9];
     let n = os::arg(1, &mut given);

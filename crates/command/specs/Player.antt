@@ -70,7 +70,7 @@ unfoldable pub allAcknowledged : List Judgement → Bool
 allAcknowledged [] = true
 allAcknowledged (j ∷ js) = acknowledged j && allAcknowledged js
 
--- if some bytes are left a packet is half sent
+-- there are no bytes
 abbrev pub isNil : List ℕ → Bool
 isNil [] = true
 isNil (x ∷ xs) = false
@@ -103,8 +103,8 @@ earlier (some m) (some n) = some (min m n)
 unfoldable pub offence : Settings → List ℕ → Option ℕ
 offence s b = earlier (notAcknowledged 0 (from s) (packets b)) (earlier (unfinished b) (leftOpen 0 0 (from s) (packets b)))
 
--- The same once more as the request lists it, by equations: `offence` is the earliest of these (`Request4.offends`). Bytes that are played from the settings s offend at
--- this place:
+-- The same once more as the request lists it, a case for each of the three: the play call names the earliest of these (`Request4.offends`). Bytes that are played from
+-- the settings s offend at this place:
 pub data Offends (s : Settings) (b : List ℕ) : ℕ → Type 0 where
   -- "the first byte of the offending packet": one that is not acknowledged
   NotAcknowledged : (before : List (List ℕ)) (p : List ℕ) (behind : List (List ℕ)) → packets b ≡ before ++ (p ∷ behind)

@@ -58,7 +58,7 @@ tied c i = (same c VideoInput && eqb i 1) || (same c PatternSequence && within 1
 abbrev pub fieldAt : Command → List ℕ → ℕ → Field
 fieldAt c v i = getD (fieldsOf c v) i (field 0 true)
 
--- what the depth asks of the other fields of 04 00
+-- the rules of 04 00 in numbers: of the depth itself, and what it asks of count, inversion and trigger
 abbrev pub Depth : ℕ → Type 0
 Depth depth = (1 ≤ depth) × (depth ≤ 8)
 

@@ -38,7 +38,7 @@ fn judge_packet(mode: u8, t: TransferState, buffer: &[u8], p: &[u8], right: bool
 // Where bytes that are played offend: the earliest of the first packet that is not acknowledged, the
 // unfinished packet, and the packet that opened the transfer left open.
 pub enum Offence {
-    // The place of its first byte.
+    // The place of its first byte; 0 where the settings are out of rule, and nothing is played.
     At(usize),
     // Each packet was acknowledged, and nothing is left half sent.
     Nothing,

@@ -63,7 +63,7 @@ fn send(a: Answer, out: &[u8], left: usize) -> Sent
     }
 }
 
-// Says which byte is wrong in a write of this command. That nobody reads it is no reason to stop.
+// Says which byte is wrong in a write of this command. That it cannot be written is no reason to stop.
 fn tell(cmd1: u8, cmd2: u8, wrong: WrongByte) {
     let WrongByte::At(byte) = wrong else {
         return;

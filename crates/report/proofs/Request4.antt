@@ -1,22 +1,26 @@
--- Request 4 of reports, proved: 18 and its place, both ways, and what stands there.
+-- Request 4 of reports, proved: when 18 holds, its place, and what stands there.
 use Prim.Native.Nat.{ℕ, _+_, _<_, _≤_}
-use mathlib.Core.Path.{_≡_, refl, ap, sym, _∙_}
+use mathlib.Core.Path.{_≡_, refl, ap, sym, subst, _∙_}
+use mathlib.Core.Logic.{_↔_}
 use mathlib.Core.List.{List, _++_, append-assoc}
 use mathlib.Core.Option.{Option, none, some}
 use native.Mathlib.Omega.{arith}
 use lib.ListN.{length, take, drop, length-append}
 use lib.Seq.{drop-at, drop-drop}
 use Rattle.packet.specs.Number.{bytesOf, Bytes}
+use Rattle.packet.proofs.Cases.{bool-cases, never}
 use Rattle.command.specs.Settings.{factory}
-use Rattle.command.specs.Player.{offence, Offends, offending, Earliest}
+use Rattle.command.specs.Player.{play, offence, Offends, offending, Earliest}
 use Rattle.command.specs.declared.settings.Settings.{Settings}
 use Rattle.command.proofs.Request4 as command
 use Rattle.command.proofs.PlayerOffences.{none-offends, earliest-named}
-use Rattle.report.specs.Report.{Trial, Refused, verdict}
-use Rattle.report.specs.Claim.{recordOf, headOf, trialRecords, reportOf, Layout, FirstLowest}
-use Rattle.report.specs.Refusals.{shippingByte, F18, Later}
-use Rattle.report.specs.Request4.{Request4}
+use Rattle.report.specs.Report.{Trial, endFrom, sameSettings, Refused, verdict}
+use Rattle.report.specs.Claim.{recordOf, headOf, trialRecords, reportOf, Layout, FirstLowest, Ships}
+use Rattle.report.specs.Refusals.{shippingByte, F18, F19, Later}
+use Rattle.report.specs.Request4.{Reaches, Request4}
+use Rattle.report.proofs.same.Laws.{settings-true, settings-refl}
 use Rattle.report.proofs.verdict.Laid.{length-report}
+use Rattle.report.proofs.Demand3.{ships-none, claimed}
 use Rattle.report.proofs.Refusals.{refused-exactly}
 
 -- bytes that offend somewhere have an earliest place
@@ -31,6 +35,55 @@ pub refused-18 : (r : List ℕ) → Bytes r → length r ≤ 60000 → (ts : Lis
     → Earliest factory ship n
     → verdict r ≡ Refused 18 (shippingByte ts n)
 refused-18 r b l ts k ship n y w e = refused-exactly r 18 (shippingByte ts n) b .1 (Later 18 _ l (F18 ts k ship n y w e))
+
+module _ (r : List ℕ) (ts : List Trial) (k : ℕ) (ship : List ℕ) (b : Bytes r) (h : Reaches r ts k ship) where
+  -- where all ships the report is accepted or refused with 19
+  ships-not-18 : Ships factory ship → (p : ℕ) → verdict r ≡ Refused 18 p → ⊥
+  ships-not-18 s p e =
+      let played = play factory ship .settings in
+      let end = endFrom factory ts k in
+      bool-cases (sameSettings played end)
+      (λ t.
+      let v =
+      claimed r k _ _
+      (record {
+        trials = ts;
+        shipping = ship;
+        short = h .short;
+        layout = h .layout;
+        first = h .lowest;
+        scored = refl;
+        ends = refl;
+        ships = s;
+        equal = settings-true played end t;
+      }) in
+      let z : _≡_ {A = ℕ} 0 1 = cc in omega arith)
+      (λ t.
+      let unlike : played ≡ end → ⊥ = λ q. never (sym t ∙ ap (λ (x : Settings). sameSettings x end) q ∙ settings-refl end) in
+      let v = refused-exactly r 19 _ b .1 (Later 19 _ (h .short) (F19 ts k ship (h .layout) (h .lowest) s unlike)) in
+      let z : _≡_ {A = ℕ} 19 18 = cc in omega arith)
+
+  earliest-18 : (n : ℕ) → Earliest factory ship n → verdict r ≡ Refused 18 (shippingByte ts n)
+  earliest-18 n = refused-18 r b (h .short) ts k ship n (h .layout) (h .lowest)
+
+  refuses-18 : ((p : ℕ) × (verdict r ≡ Refused 18 p)) ↔ (Ships factory ship → ⊥)
+  refuses-18 = (λ x s. ships-not-18 s (x .0) (x .1), λ f. go f (offence factory ship) refl)
+    where
+      go : (Ships factory ship → ⊥) → (o : Option ℕ) → offence factory ship ≡ o → (p : ℕ) × (verdict r ≡ Refused 18 p)
+      go f none e = absurd (f (ships-none factory ship e))
+      go f (some m) e = (shippingByte ts m, earliest-18 m (earliest-named factory ship m .0 e))
+
+  exactly-18 : (n : ℕ) → (verdict r ≡ Refused 18 (shippingByte ts n)) ↔ Earliest factory ship n
+  exactly-18 n = (λ e. go e (offence factory ship) refl, earliest-18 n)
+    where
+      go : verdict r ≡ Refused 18 (shippingByte ts n) → (o : Option ℕ) → offence factory ship ≡ o → Earliest factory ship n
+      go e none f = absurd (ships-not-18 (ships-none factory ship f) _ e)
+      go e (some m) f =
+          let first = earliest-named factory ship m .0 f in
+          let v = earliest-18 m first in
+          let place : shippingByte ts m ≡ shippingByte ts n = cc in
+          let same : m ≡ n = omega (arith, place) in
+          subst (Earliest factory ship) same first
 
 -- Where the shipping bytes stand in a report.
 module _ (ts : List Trial) (k : ℕ) (ship : List ℕ) where
@@ -59,4 +112,4 @@ stands-in r ts k ship n o y =
     )
 
 pub request-4 : Request4
-request-4 = record { exactly = λ r p b. refused-exactly r 18 p b; stands = stands-in }
+request-4 = record { refuses = refuses-18; exactly = exactly-18; stands = stands-in }

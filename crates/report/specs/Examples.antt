@@ -259,7 +259,7 @@ counts =
 -- Request 4: the byte that is wrong.
 abbrev pub wrongBytes : List Example
 wrongBytes =
-    -- each field of each command, with those behind it wrong too
+    -- each field of each command that has a rule, mostly with those behind it wrong too
     Names DisplayMode (3 ∷ []) 0
     ∷ Names TestPattern (14 ∷ []) 0
     ∷ Names LedCurrent (1025 ∷ 1025 ∷ 1025 ∷ []) 0
