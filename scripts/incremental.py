@@ -39,6 +39,27 @@ def misfit(log):
     return re.search(r"has no `Need-|has no field|`function-is`", ": error".join(message[:2])) is not None
 
 
+def stamps(folder):
+    """The files of a folder, each with its size and time stamp."""
+    files = {}
+    for path in folder.rglob("*"):
+        if path.is_file():
+            state = path.stat()
+            files[path.relative_to(folder)] = (state.st_size, state.st_mtime_ns)
+    return files
+
+
+def restore(original, folder):
+    """Makes a folder the original's copy again: the files that differ by size or time stamp are copied, others removed."""
+    wanted, there = stamps(original), stamps(folder)
+    for file in there.keys() - wanted.keys():
+        (folder / file).unlink()
+    for file, stamp in wanted.items():
+        if there.get(file) != stamp:
+            (folder / file).parent.mkdir(parents=True, exist_ok=True)
+            shutil.copy2(original / file, folder / file)
+
+
 class Crate:
     """A crate, with a copy of the repository for each check that runs at the same time."""
 
@@ -76,9 +97,7 @@ class Crate:
         copy = self.free.get()
         try:
             folder = copy / "target" / "inc" / self.name
-            shutil.rmtree(folder, ignore_errors=True)
-            folder.parent.mkdir(exist_ok=True)
-            subprocess.run(["cp", "-a", self.folder, folder], check=True)
+            restore(self.folder, folder)
             before = {}
             for path, text in texts.items():
                 file = copy / "crates" / self.name / path
