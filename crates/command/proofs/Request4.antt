@@ -199,7 +199,8 @@ named-first fs n r =
 -- What a packet names.
 
 -- the codes of the first group are never 03 alone
-first-not-03 : (a b c d : Bool) → listIf a 0x02 (listIf false 0x03 (listIf b 0x04 (listIf false 0x07 (listIf c 0x09 (listIf false 0x0A (listIf d 0x0B [])))))) ≡ 0x03 ∷ []
+first-not-03 : (a b c d : Bool)
+    → listIf false 0x01 (listIf a 0x02 (listIf false 0x03 (listIf b 0x04 (listIf false 0x05 (listIf false 0x06 (listIf false 0x07 (listIf false 0x08 (listIf c 0x09 (listIf false 0x0A (listIf d 0x0B [])))))))))) ≡ 0x03 ∷ []
     → ⊥
 unfolding listIf
 first-not-03 true b c d e = let z : _≡_ {A = ℕ} 2 3 = cc in omega arith

@@ -59,10 +59,14 @@ wrongOrder opened ours type flags =
 unfoldable pub faults : Found → Transfer → Arrived → Codes
 faults c t p =
     record {
+      failure = false;
       command = wrongCommand c (p .type);
       parameter = false;
       memory = tooLong (isOpen t) (length (held t)) (p .flags) (p .size);
+      device = false;
+      busy = false;
       precondition = false;
+      object = false;
       checksum = not (p .right);
       format = false;
       continuation = wrongOrder (isOpen t) (openFor c t) (p .type) (p .flags);
@@ -77,16 +81,55 @@ anyFault k = k .command || k .memory || k .checksum || k .continuation
 
 abbrev pub sizeFault : Codes
 sizeFault =
-    record { command = false; parameter = false; memory = false; precondition = false; checksum = false; format = true; continuation = false; wrong = Nothing }
+    record {
+      failure = false;
+      command = false;
+      parameter = false;
+      memory = false;
+      device = false;
+      busy = false;
+      precondition = false;
+      object = false;
+      checksum = false;
+      format = true;
+      continuation = false;
+      wrong = Nothing;
+    }
 
 -- 03 names the byte that is wrong
 abbrev pub valueFault : WrongByte → Codes
 valueFault w =
-    record { command = false; parameter = true; memory = false; precondition = false; checksum = false; format = false; continuation = false; wrong = w }
+    record {
+      failure = false;
+      command = false;
+      parameter = true;
+      memory = false;
+      device = false;
+      busy = false;
+      precondition = false;
+      object = false;
+      checksum = false;
+      format = false;
+      continuation = false;
+      wrong = w;
+    }
 
 abbrev pub modeFault : Codes
 modeFault =
-    record { command = false; parameter = false; memory = false; precondition = true; checksum = false; format = false; continuation = false; wrong = Nothing }
+    record {
+      failure = false;
+      command = false;
+      parameter = false;
+      memory = false;
+      device = false;
+      busy = false;
+      precondition = true;
+      object = false;
+      checksum = false;
+      format = false;
+      continuation = false;
+      wrong = Nothing;
+    }
 
 -- a code if its fault holds, and then others
 unfoldable pub listIf : Bool → ℕ → List ℕ → List ℕ
@@ -95,10 +138,14 @@ listIf b n l = cond b (n ∷ l) l
 -- one byte for each code, ascending, none twice; the byte that is wrong goes beside them, not among them
 unfoldable pub codesOf : Codes → List ℕ
 codesOf k =
-    listIf (k .command) 0x02
+    listIf (k .failure) 0x01
+    (listIf (k .command) 0x02
     (listIf (k .parameter) 0x03
     (listIf (k .memory) 0x04
+    (listIf (k .device) 0x05
+    (listIf (k .busy) 0x06
     (listIf (k .precondition) 0x07
+    (listIf (k .object) 0x08
     (listIf (k .checksum) 0x09
     (listIf (k .format) 0x0A
-    (listIf (k .continuation) 0x0B []))))))
+    (listIf (k .continuation) 0x0B []))))))))))

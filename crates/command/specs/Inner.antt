@@ -88,10 +88,14 @@ openForIn (Known c) t = isOpenIn t && hasCode (t .cmd1) (t .cmd2) c
 unfoldable pub faultsOf : Found → Bool → Bool → ℕ → ℕ → ℕ → ℕ → Bool → Codes
 faultsOf c opened ours n type flags size right =
     record {
+      failure = false;
       command = wrongCommand c type;
       parameter = false;
       memory = tooLong opened n flags size;
+      device = false;
+      busy = false;
       precondition = false;
+      object = false;
       checksum = not right;
       format = false;
       continuation = wrongOrder opened ours type flags;

@@ -14,16 +14,25 @@ ghost use Rattle.command.specs.declared.rules.WrongByte.the-variants as 
 ghost use Rattle.command.specs.Faults.{wrongCommand, tooLong, wrongOrder, anyFault, valueFault};
 
 // The error codes, by the names that the command guide gives them: which of them hold; and with 03 the byte
-// that is wrong, which is reported beside the codes.
+// that is wrong, which is reported beside the codes. No packet draws 01, 05, 06 or 08 in this build; a
+// judgement that is handed in may have them.
 pub(crate) struct Codes {
+    // 01
+    pub failure: bool,
     // 02
     pub command: bool,
     // 03
     pub parameter: bool,
     // 04
     pub memory: bool,
+    // 05
+    pub device: bool,
+    // 06
+    pub busy: bool,
     // 07
     pub precondition: bool,
+    // 08
+    pub object: bool,
     // 09
     pub checksum: bool,
     // 0A
@@ -36,10 +45,14 @@ pub(crate) struct Codes {
 impl Codes {
     // 0A alone.
     pub(crate) const SIZE: Codes = Codes {
+        failure: false,
         command: false,
         parameter: false,
         memory: false,
+        device: false,
+        busy: false,
         precondition: false,
+        object: false,
         checksum: false,
         format: true,
         continuation: false,
@@ -48,10 +61,14 @@ impl Codes {
 
     // 07 alone.
     pub(crate) const MODE: Codes = Codes {
+        failure: false,
         command: false,
         parameter: false,
         memory: false,
+        device: false,
+        busy: false,
         precondition: true,
+        object: false,
         checksum: false,
         format: false,
         continuation: false,
@@ -63,10 +80,14 @@ impl Codes {
         ensures { λ k. ⌜ k ≡ valueFault (wrong.At byte) ⌝ }
     {
         Codes {
+            failure: false,
             command: false,
             parameter: true,
             memory: false,
+            device: false,
+            busy: false,
             precondition: false,
+            object: false,
             checksum: false,
             format: false,
             continuation: false,
@@ -137,10 +158,14 @@ pub(crate) fn faults(found: Found, t: TransferState, header: [u8; HEADER], right
     let ours = open_for(found, t);
     let held = t.held();
     Codes {
+        failure: false,
         command: wrong_command(found, kind),
         parameter: false,
         memory: too_long(active, held, flags, size),
+        device: false,
+        busy: false,
         precondition: false,
+        object: false,
         checksum: !right,
         format: false,
         continuation: wrong_order(active, ours, kind, flags),

@@ -35,10 +35,14 @@ fn codes_data(k: Codes) -> Data
     ensures { λ r. ⌜ Holds r (codesOf k) ⌝ }
 {
     let mut bytes = [0u8; ROOM];
-    let mut n = put_code(&mut bytes, 0, k.command, 0x02);
+    let mut n = put_code(&mut bytes, 0, k.failure, 0x01);
+    n = put_code(&mut bytes, n, k.command, 0x02);
     n = put_code(&mut bytes, n, k.parameter, 0x03);
     n = put_code(&mut bytes, n, k.memory, 0x04);
+    n = put_code(&mut bytes, n, k.device, 0x05);
+    n = put_code(&mut bytes, n, k.busy, 0x06);
     n = put_code(&mut bytes, n, k.precondition, 0x07);
+    n = put_code(&mut bytes, n, k.object, 0x08);
     n = put_code(&mut bytes, n, k.checksum, 0x09);
     n = put_code(&mut bytes, n, k.format, 0x0A);
     n = put_code(&mut bytes, n, k.continuation, 0x0B);

@@ -36,13 +36,17 @@ ascending-if false m n l h a = ascending-from l m n (omega arith) a
 pub codes-ascending : (k : Codes) → Ascending 0 (codesOf k)
 unfolding codesOf
 codes-ascending k =
-    ascending-if (k .command) 0 2 _ (omega arith)
+    ascending-if (k .failure) 0 1 _ (omega arith)
+    (ascending-if (k .command) 1 2 _ (omega arith)
     (ascending-if (k .parameter) 2 3 _ (omega arith)
     (ascending-if (k .memory) 3 4 _ (omega arith)
-    (ascending-if (k .precondition) 4 7 _ (omega arith)
-    (ascending-if (k .checksum) 7 9 _ (omega arith)
+    (ascending-if (k .device) 4 5 _ (omega arith)
+    (ascending-if (k .busy) 5 6 _ (omega arith)
+    (ascending-if (k .precondition) 6 7 _ (omega arith)
+    (ascending-if (k .object) 7 8 _ (omega arith)
+    (ascending-if (k .checksum) 8 9 _ (omega arith)
     (ascending-if (k .format) 9 10 _ (omega arith)
-    (ascending-if (k .continuation) 10 11 [] (omega arith) tt))))))
+    (ascending-if (k .continuation) 10 11 [] (omega arith) tt))))))))))
 
 -- Two ascending lists with the same elements are one list.
 
@@ -99,16 +103,36 @@ data Held (k : Codes) : ℕ → Type 0 where
 
 held-listed : (k : Codes) (n : ℕ) → Held k n → List·Memᴰ n (codesOf k)
 unfolding codesOf
-held-listed k n (Code02 h) = listed-here (k .command) 2 _ h
-held-listed k n (Code04 h) = listed-later (k .command) 2 4 _ (listed-later (k .parameter) 3 4 _ (listed-here (k .memory) 4 _ h))
+held-listed k n (Code02 h) =
+    listed-later (k .failure) 1 2 _
+    (listed-here (k .command) 2 _ h)
+held-listed k n (Code04 h) =
+    listed-later (k .failure) 1 4 _
+    (listed-later (k .command) 2 4 _
+    (listed-later (k .parameter) 3 4 _
+    (listed-here (k .memory) 4 _ h)))
 held-listed k n (Code09 h) =
-    listed-later (k .command) 2 9 _
-    (listed-later (k .parameter) 3 9 _ (listed-later (k .memory) 4 9 _ (listed-later (k .precondition) 7 9 _ (listed-here (k .checksum) 9 _ h))))
+    listed-later (k .failure) 1 9 _
+    (listed-later (k .command) 2 9 _
+    (listed-later (k .parameter) 3 9 _
+    (listed-later (k .memory) 4 9 _
+    (listed-later (k .device) 5 9 _
+    (listed-later (k .busy) 6 9 _
+    (listed-later (k .precondition) 7 9 _
+    (listed-later (k .object) 8 9 _
+    (listed-here (k .checksum) 9 _ h))))))))
 held-listed k n (Code0B h) =
-    listed-later (k .command) 2 11 _
+    listed-later (k .failure) 1 11 _
+    (listed-later (k .command) 2 11 _
     (listed-later (k .parameter) 3 11 _
     (listed-later (k .memory) 4 11 _
-    (listed-later (k .precondition) 7 11 _ (listed-later (k .checksum) 9 11 _ (listed-later (k .format) 10 11 _ (listed-here (k .continuation) 11 [] h))))))
+    (listed-later (k .device) 5 11 _
+    (listed-later (k .busy) 6 11 _
+    (listed-later (k .precondition) 7 11 _
+    (listed-later (k .object) 8 11 _
+    (listed-later (k .checksum) 9 11 _
+    (listed-later (k .format) 10 11 _
+    (listed-here (k .continuation) 11 [] h))))))))))
 
 -- The tests of the first group are document 01's lines.
 
@@ -207,13 +231,17 @@ module _ (t : Transfer) (p : Arrived) where
   listed-held : (n : ℕ) → List·Memᴰ n (codesOf firstGroup) → Held firstGroup n
   unfolding codesOf faults faultsOf
   listed-held n =
-      listed-cases (firstGroup .command) 2 n _ (λ t e. rw e (Code02 t))
+      listed-cases false 1 n _ (λ t e. never t)
+      (listed-cases (firstGroup .command) 2 n _ (λ t e. rw e (Code02 t))
       (listed-cases false 3 n _ (λ t e. never t)
       (listed-cases (firstGroup .memory) 4 n _ (λ t e. rw e (Code04 t))
+      (listed-cases false 5 n _ (λ t e. never t)
+      (listed-cases false 6 n _ (λ t e. never t)
       (listed-cases false 7 n _ (λ t e. never t)
+      (listed-cases false 8 n _ (λ t e. never t)
       (listed-cases (firstGroup .checksum) 9 n _ (λ t e. rw e (Code09 t))
       (listed-cases false 10 n _ (λ t e. never t)
-      (listed-cases (firstGroup .continuation) 11 n [] (λ t e. rw e (Code0B t)) (λ h. absurd (List·Memᴰ·not-nil h))))))))
+      (listed-cases (firstGroup .continuation) 11 n [] (λ t e. rw e (Code0B t)) (λ h. absurd (List·Memᴰ·not-nil h))))))))))))
 
   held-fault : (n : ℕ) → Held firstGroup n → FirstFault t p n
   unfolding faults faultsOf
