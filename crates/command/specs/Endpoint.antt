@@ -48,14 +48,14 @@ registersOf t r =
       sum = r .running;
     }
 
--- the judgement carried out
-abbrev pub carriedOut : Controller → Received → Judgement → Controller
-carriedOut c t j =
+-- a judgement carried out, of a packet with this payload: the controller afterwards, its receiver being this one
+abbrev pub carriedOut : Controller → Receiver → List ℕ → Judgement → Controller
+carriedOut c r body j =
     record {
       settings = settingsAfter (c .settings) j;
-      registers = registersOf (transferStateAfter (transferOf (c .registers)) (arrivedIn t .body) j) (t .receiver);
-      buffer = bufferAfter (transferOf (c .registers)) (c .buffer) (arrivedIn t .body) j;
-      hold = t .receiver .hold;
+      registers = registersOf (transferStateAfter (transferOf (c .registers)) body j) r;
+      buffer = bufferAfter (transferOf (c .registers)) (c .buffer) body j;
+      hold = r .hold;
     }
 
 -- The receive call: the answer, the byte that code 03 is about, where the packet draws it, the controller afterwards, and the output.
@@ -91,7 +91,7 @@ answered c t out =
     record {
       answer = Answers (t .taken) (length (responseIn c t));
       wrong = wrongIn (judgedIn c t);
-      controller = carriedOut c t (judgedIn c t);
+      controller = carriedOut c (t .receiver) (arrivedIn t .body) (judgedIn c t);
       output = written (responseIn c t) out;
     }
 

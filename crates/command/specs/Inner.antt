@@ -1,21 +1,29 @@
 -- Definitions that exist for the code or a proof alone; nothing here has to be believed. The comment of each says what it stands for, and names the law that ties it to the definition of the paper's words.
 use Prim.Native.Nat.{ℕ, zero, suc, _+_, _*_, _≤_}
 use mathlib.Core.Path.{_≡_}
-use mathlib.Core.Bool.{Bool, true, false, cond, not, _&&_}
+use mathlib.Core.Bool.{Bool, true, false, cond, not, _&&_, _||_}
 use mathlib.Core.List.{List, [], _∷_, _++_}
 use mathlib.Core.Option.{Option, none, some}
-use lib.Dec.{eqb}
-use lib.ListN.{length, take, getD}
+use lib.Dec.{eqb, leb}
+use lib.ListN.{length, take, drop, getD}
 use Rattle.packet.specs.Number.{bytesOf}
-use Rattle.command.specs.Table.{table, hasCode, layout, sizeOf}
+use Rattle.packet.specs.Writer.{written}
+use Rattle.command.specs.Table.{table, hasCode, layout, sizeOf, readable}
+use Rattle.command.specs.Rules.{allowed}
 use Rattle.command.specs.Faults.{wrongCommand, tooLong, wrongOrder}
 use Rattle.command.specs.Data.{splitAll}
 use Rattle.command.specs.Value.{valueFrom}
 use Rattle.command.specs.Player.{State}
-use Rattle.command.specs.Controller.{transferIn, receiverIn}
+use Rattle.command.specs.Judgement.{judgeWrite}
+use Rattle.command.specs.Carry.{settingsAfter}
+use Rattle.command.specs.Response.{wrongIn, responseTo}
+use Rattle.command.specs.Controller.{transferOf, heldIn, transferIn, receiverIn, transferInRule, transferStateAfter, bufferAfter}
+use Rattle.command.specs.Ruling.{maskIn, acceptance, holds, writes, reads, noByte, byteTold}
 use Rattle.command.specs.Endpoint.{After, answered}
+use Rattle.command.specs.Encoder.{Writes}
+use Rattle.command.specs.Asking.{outcomeOf}
 use Rattle.command.specs.declared.table.Command.{Command}
-use Rattle.command.specs.declared.table.Command.the-variants.{SequenceRun}
+use Rattle.command.specs.declared.table.Command.the-variants.{DisplayMode, SequenceRun}
 use Rattle.command.specs.declared.table.Found.{Found}
 use Rattle.command.specs.declared.table.Found.the-variants.{Known, Unknown}
 use Rattle.command.specs.declared.faults.Codes.{Codes}
@@ -28,6 +36,14 @@ use Rattle.command.specs.declared.settings.Settings.{Settings}
 use Rattle.command.specs.declared.transfer.TransferState.{TransferState}
 use Rattle.command.specs.declared.controller.Controller.{Controller}
 use Rattle.command.specs.declared.controller.Registers.{Registers}
+use Rattle.command.specs.declared.judgement.Judgement.{Judgement}
+use Rattle.command.specs.declared.judgement.Judgement.the-variants.{Hold, Read}
+use Rattle.command.specs.declared.ruling.Kept.{Kept}
+use Rattle.command.specs.declared.ruling.Ruling.{Ruling}
+use Rattle.command.specs.declared.carrying.Performed.{Performed}
+use Rattle.command.specs.declared.carrying.Drawn.{Drawn}
+use Rattle.command.specs.declared.carrying.Drawn.the-variants as drawn
+use Rattle.command.specs.declared.carrying.Drawn.the-variants.{By}
 
 -- the command in line k of the table, from 0; past the end, the last: the contract of Command::at; put_list goes through `table` by it
 abbrev pub commandAt : ℕ → Command
@@ -127,3 +143,89 @@ withTransfer r t =
 -- what a call answers and leaves once its packet is complete in the receiver, the checksum right or not and n bytes taken (law answers of endpoint/advance)
 abbrev pub settled : Controller → Bool → ℕ → List ℕ → After
 settled c right n out = answered c (record { taken = n; complete = true; right = right; receiver = receiverIn c }) out
+
+-- one of the codes holds: there is one in their list (law any-code of faults/Laws)
+abbrev pub anyCode : Codes → Bool
+anyCode k =
+    k .failure || k .command || k .parameter || k .memory || k .device || k .busy || k .precondition || k .object || k .checksum || k .format || k .continuation
+
+-- A judgement as it is handed out, by the parts that the code has of a controller and of the record.
+
+-- the held bytes of a transfer: those of `transferIn` (law held-is of transfer/Laws)
+abbrev pub heldBy : TransferState → List ℕ → List ℕ
+heldBy t buffer = take (heldIn t) buffer
+
+-- keptFrom of a controller that has these, by computing
+abbrev pub keptOf : Settings → Registers → Kept
+keptOf s r = record { held = r .held; mode = s .mode; active = r .active; cmd1 = r .cmd1; cmd2 = r .cmd2 }
+
+-- transferKept of a record that has these, by computing
+abbrev pub transferOfKept : Kept → TransferState
+transferOfKept k = record { active = k .active; cmd1 = k .cmd1; cmd2 = k .cmd2; held = k .held }
+
+-- the numbers of a judgement: rulingFor (law ruling-is of asking/Laws)
+abbrev pub rulingOf : Settings → Registers → ℕ → ℕ → ℕ → Judgement → Ruling
+rulingOf s r cmd1 cmd2 count j =
+    record {
+      codes = maskIn j;
+      accepts = acceptance j;
+      wrong = byteTold (wrongIn j);
+      count = count;
+      cmd1 = cmd1;
+      cmd2 = cmd2;
+      kept = keptOf s r;
+    }
+
+-- the tests of `drawable` that look at the numbers alone (law drawn-is of carrying/Laws)
+abbrev pub rulingInRule : Ruling → Bool
+rulingInRule n =
+    eqb (n .wrong) noByte
+    && allowed DisplayMode (n .kept .mode ∷ [])
+    && transferInRule (transferOfKept (n .kept))
+    && leb (heldIn (transferOfKept (n .kept))) (n .count)
+    && leb (n .count) 1024
+
+-- a judgement that is a write, and no other
+abbrev pub ifWrite : Judgement → Option Judgement
+ifWrite j = cond (eqb (acceptance j) writes) (some j) none
+
+-- what a record without codes means for a command, its joined data being d, unless no packet draws it: `acceptable` and `acceptedAs` (law accepted-is of carrying/Laws)
+abbrev pub acceptedBy : Command → Ruling → List ℕ → Option Judgement
+acceptedBy c n d =
+    let t = transferOfKept (n .kept) in
+    let order = eqb (t .active) 0 || openForIn (Known c) t in
+    cond (eqb (n .accepts) holds && order) (some (Hold c))
+    (cond (eqb (n .accepts) writes && order) (ifWrite (judgeWrite c (n .kept .mode) d))
+    (cond (eqb (n .accepts) reads && eqb (t .active) 0 && readable c && eqb (n .count) 0) (some (Read c)) none))
+
+-- what such an answer of the code says
+abbrev pub drawnOf : Drawn → Option Judgement
+drawnOf (By j) = some j
+drawnOf drawn.Nothing = none
+
+-- both are open for the same command with as many bytes held, or neither is open: the numbers of `sameItems` (law same-numbers of carrying/Laws)
+abbrev pub sameNumbers : TransferState → TransferState → Bool
+sameNumbers t k =
+    cond (eqb (t .active) 0 || eqb (k .active) 0) (eqb (t .active) 0 && eqb (k .active) 0)
+    (eqb (t .cmd1) (k .cmd1) && eqb (t .cmd2) (k .cmd2) && eqb (t .held) (k .held))
+
+-- the judgement j of a record is carried out on a controller of these parts, the bytes that it brought standing from the held ones up to `end`: carries of the record where
+-- j is what it means (law carries-is of carrying/Laws). Where the joined data end is known but for an error, which brings none.
+pub record Carries
+    (p : Performed)
+    (buffer′ out′ : List ℕ)
+    (s : Settings)
+    (r : Registers)
+    (buffer : List ℕ)
+    (n : Ruling)
+    (joined : List ℕ)
+    (j : Judgement)
+    (out : List ℕ) : Type 0 where
+  pub end : ℕ
+  pub known : heldIn (transferOf r) ≤ n .count → n .count ≤ 1024 → end ≡ n .count
+  pub settings : p .settings ≡ settingsAfter s j
+  pub registers : p .registers ≡ withTransfer r (transferStateAfter (transferOf r) (drop (heldIn (transferOf r)) (take end joined)) j)
+  pub held : buffer′ ≡ bufferAfter (transferOf r) buffer (drop (heldIn (transferOf r)) (take end joined)) j
+  pub stored : p .stored ≡ true
+  pub answer : outcomeOf (p .answer) ≡ Writes (length (responseTo (n .cmd1) (n .cmd2) s j))
+  pub output : out′ ≡ written (responseTo (n .cmd1) (n .cmd2) s j) out

@@ -14,11 +14,14 @@ pub mod Player
 pub mod Controller
 pub mod Endpoint
 pub mod Encoder
+pub mod Ruling
+pub mod Asking
 pub mod Sending
 pub mod Demand1
 pub mod Demand2
 pub mod Request2
 pub mod Request4
+pub mod Request5
 pub mod Lent
 pub mod Inner
 pub mod Computing

@@ -30,8 +30,12 @@ responseData s (Hold c) = []
 responseData s (Write v) = []
 responseData s (Read c) = dataOf c s
 
+abbrev pub responseTo : ℕ → ℕ → Settings → Judgement → List ℕ
+responseTo cmd1 cmd2 s j = packetOf (responseType j) cmd1 cmd2 whole (responseData s j)
+
+-- to a packet
 unfoldable pub response : Settings → Arrived → Judgement → List ℕ
-response s p j = packetOf (responseType j) (p .cmd1) (p .cmd2) whole (responseData s j)
+response s p j = responseTo (p .cmd1) (p .cmd2) s j
 
 -- the codes that a judgement draws: none where the packet is acknowledged or read
 abbrev pub codesIn : Judgement → List ℕ

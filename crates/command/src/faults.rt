@@ -5,13 +5,30 @@ use crate::transfer::HOLD;
 use crate::transfer::TransferState;
 use packet::HEADER;
 ghost use mathlib.Core.Path.{_≡_};
-ghost use mathlib.Core.Bool.{true};
-ghost use Prim.Native.Nat.{_≤_, _<_};
+ghost use mathlib.Core.Bool.{true, cond};
+ghost use Prim.Native.Nat.{_≤_, _<_, _/_, _%_};
+ghost use lib.Dec.{eqb};
 ghost use Rattle.packet.specs.Packet.{typeOf, flagsOf, payloadLength};
-ghost use Rattle.command.specs.Inner.{isOpenIn, openForIn, faultsOf};
+ghost use Rattle.command.specs.Inner.{isOpenIn, openForIn, faultsOf, anyCode};
 ghost use Rattle.command.specs.Controller.{heldIn, transferInRule};
 ghost use Rattle.command.specs.declared.rules.WrongByte.the-variants as wrong;
 ghost use Rattle.command.specs.Faults.{wrongCommand, tooLong, wrongOrder, anyFault, valueFault};
+ghost use Rattle.command.specs.Ruling.{maskOf, codesTold};
+
+// A bit of this value, where it is set.
+fn bit(set: bool, value: u16) -> u16
+    ensures { λ r. ⌜ (r ≡ cond set value 0) × (r ≤ value) ⌝ }
+{
+    if set { value } else { 0 }
+}
+
+// The bit of this value is set.
+fn has_bit(mask: u16, value: u16) -> bool
+    requires { ⌜ 0 < value ⌝ }
+    ensures { λ r. ⌜ r ≡ eqb (mask / value % 2) 1 ⌝ }
+{
+    mask / value % 2 == 1
+}
 
 // The error codes, by the names that the command guide gives them: which of them hold; and with 03 the byte
 // that is wrong, which is reported beside the codes. No packet draws 01, 05, 06 or 08 in this build; a
@@ -95,6 +112,60 @@ impl Codes {
         }
     }
 
+    // The codes as one number: bit n is code n.
+    pub(crate) fn mask(self) -> u16
+        ensures { λ m. ⌜ m ≡ maskOf self ⌝ }
+    {
+        bit(self.failure, 2)
+            + bit(self.command, 4)
+            + bit(self.parameter, 8)
+            + bit(self.memory, 16)
+            + bit(self.device, 32)
+            + bit(self.busy, 64)
+            + bit(self.precondition, 128)
+            + bit(self.object, 256)
+            + bit(self.checksum, 512)
+            + bit(self.format, 1024)
+            + bit(self.continuation, 2048)
+    }
+
+    // The codes that such a number says.
+    pub(crate) fn told(mask: u16) -> Codes
+        ensures { λ k. ⌜ k ≡ codesTold mask ⌝ }
+    {
+        Codes {
+            failure: has_bit(mask, 2),
+            command: has_bit(mask, 4),
+            parameter: has_bit(mask, 8),
+            memory: has_bit(mask, 16),
+            device: has_bit(mask, 32),
+            busy: has_bit(mask, 64),
+            precondition: has_bit(mask, 128),
+            object: has_bit(mask, 256),
+            checksum: has_bit(mask, 512),
+            format: has_bit(mask, 1024),
+            continuation: has_bit(mask, 2048),
+            wrong: WrongByte::Nothing,
+        }
+    }
+
+    // One of them holds.
+    pub(crate) fn any(self) -> bool
+        ensures { λ r. ⌜ r ≡ anyCode self ⌝ }
+    {
+        self.failure
+            | self.command
+            | self.parameter
+            | self.memory
+            | self.device
+            | self.busy
+            | self.precondition
+            | self.object
+            | self.checksum
+            | self.format
+            | self.continuation
+    }
+
     // A fault of the first group holds.
     pub(crate) fn first_group(self) -> bool
         ensures { λ r. ⌜ r ≡ anyFault self ⌝ }
@@ -136,7 +207,7 @@ fn wrong_order(active: bool, ours: bool, kind: u8, flags: u8) -> bool
 }
 
 // A transfer is open for this command.
-fn open_for(found: Found, t: TransferState) -> bool
+pub(crate) fn open_for(found: Found, t: TransferState) -> bool
     ensures { λ r. ⌜ r ≡ openForIn found t ⌝ }
 {
     let Found::Known(c) = found else {

@@ -13,13 +13,15 @@ use crate::value::Value;
 use crate::value::parse;
 use packet::HEADER;
 ghost use mathlib.Core.Path.{_≡_};
-ghost use Rattle.packet.specs.Packet.{typeOf, flagsOf};
+ghost use Rattle.packet.specs.Packet.{typeOf, flagsOf, rightSum};
+ghost use Rattle.packet.specs.Stream.{size};
 ghost use Rattle.command.specs.Judgement.{judgeData as judgeDataOf, judgeRead as judgeReadOf, judgeWrite as judgeWriteOf, judge as judgeOf};
 ghost use mathlib.Core.Bool.{true};
 ghost use mathlib.Core.List.{_++_};
 ghost use Prim.Native.Nat.{_≤_, _<_};
 ghost use lib.ListN.{length};
 ghost use Rattle.command.specs.Controller.{transferIn, packetIn, transferInRule};
+ghost use Rattle.command.specs.Faults.{arrived};
 ghost use Rattle.command.specs.Response.{wrongIn};
 ghost use Rattle.command.specs.Rules.{byteOf};
 
@@ -49,7 +51,7 @@ impl Judgement {
 }
 
 // The data of a write are complete: what is held, and the payload.
-fn judge_write(c: Command, mode: u8, held: &[u8], payload: &[u8]) -> Judgement
+pub(crate) fn judge_write(c: Command, mode: u8, held: &[u8], payload: &[u8]) -> Judgement
     requires { ⌜ (length (now held) ≤ 1024) × (length (now payload) < 65536) ⌝ }
     ensures { λ r. ⌜ r ≡ judgeWriteOf c mode (now (held .entry) ++ now (payload .entry)) ⌝ }
 {
@@ -115,4 +117,13 @@ pub(crate) fn judge(
     }
     let n = t.held();
     judge_data(c, mode, header, &buffer[..n], payload)
+}
+
+// One whole packet, its checksum right or not.
+pub(crate) fn judge_packet(mode: u8, t: TransferState, buffer: &[u8], p: &[u8], right: bool) -> Judgement
+    requires { ⌜ (7 ≤ length (now p)) × (length (now p) ≤ 65542) × (size (now p) ≡ length (now p)) × (right ≡ rightSum (now p)) × (transferInRule t ≡ true) × (length (now buffer) ≡ 1024) ⌝ }
+    ensures { λ j. ⌜ j ≡ judgeOf mode (transferIn t (now (buffer .entry))) (arrived (now (p .entry))) ⌝ }
+{
+    let header = [p[0], p[1], p[2], p[3], p[4], p[5]];
+    judge(mode, t, header, right, buffer, &p[HEADER..p.len() - 1])
 }

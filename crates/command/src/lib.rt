@@ -11,21 +11,30 @@ mod table;
 mod value;
 
 // One complete packet: the open transfer, the first group of faults, the judgement, carrying it out,
-// and the response, which goes to a lent output.
+// and the response, which goes to a lent output. A judgement that is handed out is a ruling.
 mod carry;
 mod faults;
 mod judgement;
 mod output;
 mod response;
+mod ruling;
 mod transfer;
 
-// The head, and the calls: receive, play, encode and the standard list.
+// The head, and the calls: receive; judge a packet, and carry out the judgement; play, encode and the
+// standard list.
+mod asking;
+mod carrying;
 mod controller;
 mod encoder;
 mod endpoint;
 mod player;
 
 // The head and its calls.
+pub use asking::Asked;
+pub use asking::Asking;
+pub use asking::Judged;
+pub use asking::ask;
+pub use asking::judge_packet;
 pub use controller::Controller;
 pub use controller::Registers;
 pub use encoder::Encoded;
@@ -37,9 +46,21 @@ pub use endpoint::Step;
 pub use endpoint::receive;
 pub use endpoint::serve;
 pub use output::OUTPUT;
+pub use carrying::CarriedOut;
+pub use carrying::CarryStep;
+pub use carrying::Performed;
+pub use carrying::carry_out;
+pub use carrying::perform;
 pub use player::Offence;
 pub use player::Played;
 pub use player::play;
+pub use ruling::HOLDS;
+pub use ruling::JudgementRecord;
+pub use ruling::Kept;
+pub use ruling::NO_WRONG_BYTE;
+pub use ruling::READS;
+pub use ruling::Ruling;
+pub use ruling::WRITES;
 pub use transfer::HOLD;
 
 // The commands and their values.

@@ -2,7 +2,7 @@
 use crate::carry::settings_after;
 use crate::carry::transfer_after;
 use crate::judgement::Judgement;
-use crate::judgement::judge;
+use crate::judgement::judge_packet;
 use crate::response::response_type;
 use crate::rules::settings_in_rule;
 use crate::settings::Settings;
@@ -12,28 +12,12 @@ use packet::HEADER;
 use packet::Next;
 use packet::next_packet;
 ghost use mathlib.Core.Path.{_≡_};
-ghost use mathlib.Core.Bool.{true, cond};
+ghost use mathlib.Core.Bool.{cond};
 ghost use mathlib.Core.Option.{none, some};
-ghost use Prim.Native.Nat.{_≤_};
 ghost use lib.Dec.{ltb};
-ghost use lib.ListN.{length};
-ghost use Rattle.packet.specs.Packet.{rightSum};
-ghost use Rattle.packet.specs.Stream.{size};
-ghost use Rattle.command.specs.Faults.{arrived};
-ghost use Rattle.command.specs.Judgement.{judge as judgeOf};
-ghost use Rattle.command.specs.Controller.{transferIn, transferInRule};
 ghost use Rattle.command.specs.Response.{acknowledged};
 ghost use Rattle.command.specs.Inner.{isOpenIn, orElse};
 ghost use Rattle.command.specs.Player.{earlier as earlierOf, endSettings, endOffence, placeOf};
-
-// One whole packet, its checksum right or not.
-fn judge_packet(mode: u8, t: TransferState, buffer: &[u8], p: &[u8], right: bool) -> Judgement
-    requires { ⌜ (7 ≤ length (now p)) × (length (now p) ≤ 65542) × (size (now p) ≡ length (now p)) × (right ≡ rightSum (now p)) × (transferInRule t ≡ true) × (length (now buffer) ≡ 1024) ⌝ }
-    ensures { λ j. ⌜ j ≡ judgeOf mode (transferIn t (now (buffer .entry))) (arrived (now (p .entry))) ⌝ }
-{
-    let header = [p[0], p[1], p[2], p[3], p[4], p[5]];
-    judge(mode, t, header, right, buffer, &p[HEADER..p.len() - 1])
-}
 
 // Where bytes that are played offend: the earliest of the first packet that is not acknowledged, the
 // unfinished packet, and the packet that opened the transfer left open.

@@ -44,7 +44,7 @@ impl WrongByte {
 }
 
 // 3.2 Current Display Mode (01 01), Table 3, Byte 0.
-fn display_mode(m: u8) -> WrongByte
+pub(crate) fn display_mode(m: u8) -> WrongByte
     ensures { λ r. ⌜ r ≡ firstWrong (modeFields m) ⌝ }
 {
     match m {

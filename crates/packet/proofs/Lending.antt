@@ -5,10 +5,21 @@
 --     steps       `let s = f(*c, input, out, k, n); *c = s.state; s.answer`
 --     reads       `f(*s, out, n)`
 --     chooses     `f(y, z, *s, out, n)`, y and z bytes
+-- The walks that hand the arrays of a lent struct on in place stand in modules of their own:
+--     InPlace     lends       c is lent to change: both its arrays are handed on to be changed
+--     Asking      asks        c is lent to read and j to change: an array of c is handed on to be read, and that of j to be changed
+--     Carrying    carries     c is lent to change and j to read: an array of c is handed on to be changed, and that of j to be read
+-- They stand on `Arrays` (an array's cell is lent and comes back), `Apart` and `Paired` (a struct's cell is taken apart and made whole again: of two plain structs and two arrays, and of one and one), `Returned` (what `f` returned is stored) and `Branch` (a branch whose two ways meet).
 -- The crate says what its types are (`struct-held`, `number`, `Parted`), what `f` ensures and what follows of it, and that its function is the one walked here (`refl`). Both contracts ask nothing and ensure one fact.
--- A walk opens the borrow of a struct, copies it out whole or stores a new one, and closes the borrow. It knows of a callee only that it meets its contract, and never looks into a struct: fields may change, and nothing here.
+-- A walk of this module opens the borrow of a struct, copies it out whole or stores a new one, and closes the borrow. It knows of a callee only that it meets its contract, and never looks into a struct: fields may change, and nothing here.
 mod Arrays
+mod Apart
+mod Paired
+mod Returned
+mod Branch
 pub mod InPlace
+pub mod Asking
+pub mod Carrying
 use mathlib.Core.Path.{_≡_, refl, sym, ap, subst}
 use Prim.Native.Nat.{ℕ, suc, _+_}
 use mathlib.Core.List.{List, [], _∷_, _++_, map}
@@ -299,14 +310,15 @@ module _ {M : Type 1} (𝓤 : URA M) (H : Heap 𝓤) (A : Atoms 𝓤) (W : Given
 room : (u : RefT (List ℕ)) → Room u8 (length (u .now)) → Holds (hasTy (slice erased mut) (span u)) × WT (span u)
 room u fits = (tt, (tt, (record { fits = fits .0 }, tt)))
 
--- the borrow of c, closed at x and open with x in its cell
+-- the borrow of c: closed at x; open, without its cell; and open with x in its cell
 abbrev Lent : {M : Type 1} (𝓤 : URA M) (T : Held) → Lft → Share → RefT (T .row .Denot) → T .row .Denot → List (Item 𝓤) → List (Item 𝓤)
 Lent 𝓤 T κ q c x Γ = ‵ (fobs (c .name) (T .row .coded .code x)) ∷ ‵ (fbor κ (Body (mem (T .row)) (c .ptr .0) (c .ptr .1) (c .name))) ∷ ‵ (flft κ q) ∷ Γ
 
+abbrev Opened : {M : Type 1} (𝓤 : URA M) (T : Held) → Lft → Share → RefT (T .row .Denot) → List (Item 𝓤) → List (Item 𝓤)
+Opened 𝓤 T κ q c Γ = ‵ (fobor κ q (Body (mem (T .row)) (c .ptr .0) (c .ptr .1) (c .name))) ∷ ‵ (fobs (c .name) (T .row .coded .code (c .now))) ∷ ‵ (fauth (c .name) (T .row .coded .code (c .now))) ∷ Γ
+
 abbrev Open : {M : Type 1} (𝓤 : URA M) (T : Held) → Lft → Share → RefT (T .row .Denot) → T .row .Denot → List (Item 𝓤) → List (Item 𝓤)
-Open 𝓤 T κ q c x Γ =
-    ‵ (fat fullShare (rawTy (T .ty)) (c .ptr .0) (c .ptr .1) (T .val x)) ∷ ‵ (fobor κ q (Body (mem (T .row)) (c .ptr .0) (c .ptr .1) (c .name)))
-    ∷ ‵ (fobs (c .name) (T .row .coded .code (c .now))) ∷ ‵ (fauth (c .name) (T .row .coded .code (c .now))) ∷ Γ
+Open 𝓤 T κ q c x Γ = ‵ (fat fullShare (rawTy (T .ty)) (c .ptr .0) (c .ptr .1) (T .val x)) ∷ Opened 𝓤 T κ q c Γ
 
 -- what a slice that is lent to read owns
 abbrev Input : Lft → RefT (List ℕ) → Fml

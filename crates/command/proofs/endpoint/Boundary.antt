@@ -91,7 +91,7 @@ module _ (c : Controller) (k : Ready c) (p : List ℕ) (i : IsPacket p) where
   response-same = ap₂ (response (c .settings)) seen judged-same
 
   -- and leaves the state that document 01 says
-  carried-state : (j : Judgement) → Bounded (heldIn (transferOf (c .registers)) + payloadLength p) j → stateOf (carriedOut c complete j) ≡ record {
+  carried-state : (j : Judgement) → Bounded (heldIn (transferOf (c .registers)) + payloadLength p) j → stateOf (carriedOut c (complete .receiver) (arrivedIn complete .body) j) ≡ record {
     settings = settingsAfter (c .settings) j;
     transfer = transferAfter (stateOf c .transfer) (arrived p) j;
   }
@@ -100,10 +100,10 @@ module _ (c : Controller) (k : Ready c) (p : List ℕ) (i : IsPacket p) where
       (carried-transfer (transferOf (c .registers)) (c .buffer) (arrivedIn complete .body) (arrived p) j (rule-parts (c .settings) (c .registers) (k .rule) .transfer) (k .buffer)
       (payload-length p (i .exact)) (λ l. ap (λ (q : Arrived). q .body) seen ∙ whole-body l) b)
 
-  state-same : stateOf (carriedOut c complete (judgedIn c complete)) ≡ next (stateOf c) p
+  state-same : stateOf (carriedOut c (complete .receiver) (arrivedIn complete .body) (judgedIn c complete)) ≡ next (stateOf c) p
   unfolding next judged
   state-same =
-      ap (λ (j : Judgement). stateOf (carriedOut c complete j)) judged-same
+      ap (λ (j : Judgement). stateOf (carriedOut c (complete .receiver) (arrivedIn complete .body) j)) judged-same
       ∙ carried-state (judged (stateOf c) p)
       (subst (λ (n : ℕ). Bounded (n + payloadLength p) (judged (stateOf c) p)) held-same
       (bounded (c .settings .mode) (stateOf c .transfer) (arrived p)))

@@ -66,7 +66,7 @@ module _ (c : Controller) (b out : List ℕ) (k : Ready c) (l : 64 ≤ length ou
 
 -- a judgement that is carried out keeps the head in rule
 ready-carried : (c : Controller) (t : Received) → Ready c → length (t .receiver .header) ≡ 6 → length (t .receiver .hold) ≡ 1024 → t .receiver .received ≡ 0
-    → Ready (carriedOut c t (judgedIn c t))
+    → Ready (carriedOut c (t .receiver) (arrivedIn t .body) (judgedIn c t))
 unfolding judgedIn
 ready-carried c t k h d z =
     let r = rule-parts (c .settings) (c .registers) (k .rule) in

@@ -1,21 +1,22 @@
 -- The ways a packet can be judged, what is known of a write that is carried out, and how the steps of the code make up the judgement.
-use Prim.Native.Nat.{ℕ, _+_, _≤_}
+use Prim.Native.Nat.{ℕ, _+_, _-_, _≤_}
 use mathlib.Core.Path.{_≡_, refl, ap, sym, _∙_}
 use mathlib.Core.Bool.{Bool, true, false, cond, not, _||_, or-true}
-use mathlib.Core.List.{List, _++_}
+use mathlib.Core.List.{List, [], _∷_, _++_}
 use native.Mathlib.Omega.{arith}
 use lib.Dec.{eqb}
-use lib.ListN.{length, take}
+use lib.ListN.{length, take, drop, getD}
 use borrow.Author.Tests.{eqb-true}
 use Rattle.packet.specs.Number.{Bytes}
-use Rattle.packet.specs.Packet.{typeOf, cmd1Of, cmd2Of, flagsOf, payloadLength, hostWrite, hostRead}
+use Rattle.packet.specs.Packet.{typeOf, cmd1Of, cmd2Of, flagsOf, payloadLength, payload, rightSum, hostWrite, hostRead}
+use Rattle.packet.specs.Stream.{size}
 use Rattle.packet.proofs.Cases.{bool-cases, cond-cases}
 use Rattle.command.specs.Table.{commandOf, layout, sizeOf}
 use Rattle.command.specs.Rules.{allowed, wrongByte, blocked}
 use Rattle.command.specs.Data.{splitAll, Fit}
 use Rattle.command.specs.Value.{commandIn, valuesIn, valueFrom}
 use Rattle.command.specs.Transfer.{Transfer, held}
-use Rattle.command.specs.Faults.{Arrived, wrongCommand, faults, anyFault, sizeFault, valueFault, modeFault}
+use Rattle.command.specs.Faults.{Arrived, arrived, wrongCommand, faults, anyFault, sizeFault, valueFault, modeFault}
 use Rattle.command.specs.Judgement.{judgeWrite, judgeRead, completes, judgeData, judgeAs, judge}
 use Rattle.command.specs.Controller.{heldIn, transferIn, transferInRule, packetIn}
 use Rattle.command.specs.Inner.{isOpenIn, openForIn, parsed, faultsOf}
@@ -160,3 +161,11 @@ module _ (mode : ℕ) (t : TransferState) (header : List ℕ) (right : Bool) (bu
         ≡ judge mode (transferIn t buffer) (packetIn header right body)
     unfolding judge judgeAs
     judge-known c k = rw (← e, k, rw k at codes-are, held-is t r buffer)
+
+-- A packet of bytes, its fields at their places, is what is judged.
+pub packet-parts : (p : List ℕ) (right : Bool) → size p ≡ length p → right ≡ rightSum p → {body : List ℕ} → body ≡ take (length p - 1 - 6) (drop 6 p)
+    → packetIn (getD p 0 0 ∷ getD p 1 0 ∷ getD p 2 0 ∷ getD p 3 0 ∷ getD p 4 0 ∷ getD p 5 0 ∷ []) right body ≡ arrived p
+unfolding size payload
+packet-parts p right e r b =
+    let n : length p - 1 - 6 ≡ payloadLength p = omega arith in
+    rw (r, b, n)

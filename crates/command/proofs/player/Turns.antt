@@ -29,14 +29,6 @@ use Rattle.command.specs.declared.judgement.Judgement.{Judgement}
 use Rattle.command.proofs.transfer.Laws.{held-length}
 use Rattle.command.proofs.carry.Laws.{Bounded, bounded, transfer-kept, carried-transfer}
 
--- A packet of bytes, its fields at their places, is what is judged.
-pub packet-parts : (p : List ℕ) (right : Bool) → size p ≡ length p → right ≡ rightSum p → {body : List ℕ} → body ≡ take (length p - 1 - 6) (drop 6 p)
-    → packetIn (getD p 0 0 ∷ getD p 1 0 ∷ getD p 2 0 ∷ getD p 3 0 ∷ getD p 4 0 ∷ getD p 5 0 ∷ []) right body ≡ arrived p
-unfolding size payload
-packet-parts p right e r b =
-    let n : length p - 1 - 6 ≡ payloadLength p = omega arith in
-    rw (r, b, n)
-
 -- One packet that is judged as j on a head of these settings, this transfer and this buffer.
 module _
     (s : Settings)

@@ -4,9 +4,9 @@ use denote.Ref.{now}
 use borrow.Author.Needs.{needs}
 use Rattle.command.specs.Judgement.{judge}
 use Rattle.command.specs.Controller.{transferIn}
-use Rattle.command.proofs.player.Turns.{packet-parts}
-use Rattle.command.proofs.player.judge_packet.Statement.{statement}
-use Rattle.command.proofs.player.judge_packet.Tie as tie
+use Rattle.command.proofs.judgement.Laws.{packet-parts}
+use Rattle.command.proofs.judgement.judge_packet.Statement.{statement}
+use Rattle.command.proofs.judgement.judge_packet.Tie as tie
 
 returns : tie.Need-returns
 returns c =

@@ -1,0 +1,185 @@
+-- `ask` meets its contract: it refuses, or the packet is judged and its judgement told in numbers.
+use Prim.Native.Nat.{ℕ, _+_, _-_, _≤_}
+use mathlib.Core.Bool.{true, false}
+use mathlib.Core.Path.{_≡_, refl, ap, sym, subst, _∙_}
+use mathlib.Core.List.{List}
+use native.Mathlib.Omega.{arith}
+use denote.Ref.{now}
+use lib.ListN.{length, take, drop, length-drop}
+use lib.Seq.{length-take-le}
+use borrow.Author.Needs.{needs}
+use borrow.Author.Tests.{not-true, not-false, ne-eqb}
+use Rattle.packet.specs.Packet.{payload, payloadLength, rightSum}
+use Rattle.packet.specs.Stream.{size, hasPacket}
+use Rattle.packet.proofs.NumberLaws.{bytes-at}
+use Rattle.packet.proofs.StreamLaws.{next-some, next-none, seven, size-most, payload-length}
+use Rattle.command.specs.Faults.{arrived}
+use Rattle.command.specs.Controller.{transferOf, heldIn, transferIn, transferInRule, partsInRule}
+use Rattle.command.specs.Asking.{onePacket}
+use Rattle.command.specs.Ruling.{dataFor}
+use Rattle.command.specs.Lent.{withoutHold, recordOf, noRuling}
+use Rattle.command.specs.Inner.{heldBy}
+use Rattle.command.specs.declared.judgement.Judgement.{Judgement}
+use Rattle.command.proofs.controller.Laws.{rule-parts}
+use Rattle.command.proofs.transfer.Laws.{held-is, held-most}
+use Rattle.command.proofs.asking.Laws.{data-fit, out-of-rule, not-one, judges}
+use Rattle.command.proofs.asking.ask.Statement.{statement}
+use Rattle.command.proofs.asking.ask.Tie as tie
+
+-- where the function starts
+abbrev start : tie.After-in-rule → tie.Start
+start i = i .before .before
+
+-- refusal 3
+returns : tie.Need-returns
+returns c =
+    let i = c .before .before in
+    let s = start i in
+    rw (c .refused .ensures .0, c .refused .ensures .1)
+    (out-of-rule (withoutHold (s .args .settings) (s .args .r) (now (s .args .buffer))) (now (s .args .input)) (recordOf noRuling (now (s .args .joined)))
+    (sym (i .in-rule .ensures) ∙ not-true (i .in-rule .result) (c .before .if1 .taken)))
+
+-- past it the controller is in rule
+in-rule : (e : tie.Else1) → let s = start (e .before) in partsInRule (s .args .settings) (s .args .r) ≡ true
+in-rule e = sym (e .before .in-rule .ensures) ∙ not-false (e .before .in-rule .result) (e .if1 .left)
+
+-- refusal 5: no packet begins there,
+none-there : (b : List ℕ) → hasPacket b ≡ false → onePacket b ≡ false
+unfolding onePacket
+none-there b h = rw h
+
+returns-2 : tie.Need-returns-2
+returns-2 c =
+    let m = c .before in
+    let n = m .before .before in
+    let e = n .before in
+    let s = start (e .before) in
+    rw (c .refused2 .ensures .0, c .refused2 .ensures .1)
+    (not-one (withoutHold (s .args .settings) (s .args .r) (now (s .args .buffer))) (now (s .args .input)) (recordOf noRuling (now (s .args .joined))) (in-rule e)
+    (none-there (now (s .args .input)) (next-none (now (s .args .input)) (sym (n .next-packet .ensures) ∙ m .enum-told .given .1))))
+
+-- what is known of the packet that does
+module _ (k : tie.After-known-told) where
+  abbrev said : tie.After-next-packet
+  said = k .before .before .before
+
+  abbrev came : tie.Start
+  came = start (said .before .before)
+
+  abbrev bytes : List ℕ
+  bytes = now (came .args .input)
+
+  there : (hasPacket bytes ≡ true) × (size bytes ≡ k .before .size .given .0 .0) × (rightSum bytes ≡ k .before .size .given .0 .1 .0)
+  there = next-some bytes (k .before .size .given .0 .0) (k .before .size .given .0 .1 .0) (sym (said .next-packet .ensures) ∙ k .before .size .given .1)
+
+-- or it is not all of the bytes
+not-all : (b : List ℕ) → (size b ≡ length b → ⊥) → hasPacket b ≡ true → onePacket b ≡ false
+unfolding onePacket
+not-all b h e = rw (e, ne-eqb (size b) (length b) h)
+
+returns-3 : tie.Need-returns-3
+returns-3 c =
+    let k = c .before .before in
+    let s = came k in
+    rw (c .refused3 .ensures .0, c .refused3 .ensures .1)
+    (not-one (withoutHold (s .args .settings) (s .args .r) (now (s .args .buffer))) (bytes k) (recordOf noRuling (now (s .args .joined))) (in-rule (said k .before))
+    (not-all (bytes k) (λ x. c .before .if2 .taken (sym (there k .1) ∙ x)) (there k .0)))
+
+-- they are one packet
+module _ (e : tie.Else2) where
+  abbrev packet : tie.After-known-told
+  packet = e .before
+
+  whole : size (bytes packet) ≡ length (bytes packet)
+  whole = there packet .1 ∙ e .if2 .left
+
+  most : length (bytes packet) ≤ 65542
+  most = omega (arith, whole, size-most (bytes packet) (bytes-at (bytes packet) (λ i. said packet .before .before .before .shared-slice-known .given i .fits)))
+
+  least : 7 ≤ length (bytes packet)
+  least = omega (arith, whole, seven (bytes packet))
+
+  -- its payload
+  body-is : take (packet .before .size .given .0 .0 - 1 - 6) (drop 6 (bytes packet)) ≡ payload (bytes packet)
+  unfolding payload size
+  body-is =
+      let n : packet .before .size .given .0 .0 - 1 - 6 ≡ payloadLength (bytes packet) = omega (arith, there packet .1) in
+      ap (λ (i : ℕ). take i (drop 6 (bytes packet))) n
+
+-- and judged so
+module _ (g : tie.After-judge-packet) where
+  abbrev t : tie.After-transfer
+  t = g .before .before
+
+  abbrev p : List ℕ
+  p = bytes (t .before .before)
+
+  abbrev buffer : List ℕ
+  buffer = now (came (t .before .before) .args .buffer)
+
+  abbrev rule : transferInRule (t .transfer .result) ≡ true
+  rule = ap transferInRule (t .transfer .ensures) ∙ rule-parts _ _ (in-rule (said (t .before .before) .before)) .transfer
+
+  -- the data have room
+  fit : length buffer ≡ 1024 → length (dataFor (heldBy (t .transfer .result) buffer) (payload p) (g .judge-packet .result)) ≤ 1024
+  fit n =
+      subst (λ (j : Judgement). length (dataFor (heldBy (t .transfer .result) buffer) (payload p) j) ≤ 1024) (sym (g .judge-packet .ensures))
+      (rw (← held-is (t .transfer .result) rule buffer)
+      (data-fit _ (transferIn (t .transfer .result) buffer) (arrived p)
+      (omega (arith, ap length (held-is (t .transfer .result) rule buffer), length-take-le (heldIn (t .transfer .result)) buffer (omega (arith, held-most (t .transfer .result) rule)), held-most (t .transfer .result) rule))
+      (payload-length p (whole (t .before)))))
+
+judge-packet-requires : tie.Need-judge-packet-requires
+judge-packet-requires c κs =
+    let t = c .before in
+    let e = t .before in
+    let k = e .before in
+    let n : length (now (came k .args .buffer)) ≡ 1024 = search needs in
+    (least e, most e, whole e, sym (there k .2), ap transferInRule (t .transfer .ensures) ∙ rule-parts _ _ (in-rule (said k .before)) .transfer, n)
+
+sub-keep : tie.Need-sub-keep
+sub-keep c = let e = c .before .before .before .before in omega (arith, least e, e .if2 .left)
+
+sub-keep-2 : tie.Need-sub-keep-2
+sub-keep-2 c = let e = c .before .before .before .before in omega (arith, least e, e .if2 .left)
+
+part-keep-start : tie.Need-part-keep-start
+part-keep-start c = let e = c .before .before .before .before in omega (arith, least e, e .if2 .left)
+
+keep-requires : tie.Need-keep-requires
+keep-requires c κs =
+    let g = c .before .before .before in
+    let e = t g .before in
+    let n : length (buffer g) ≡ 1024 = search needs in
+    let z : size (p g) ≡ 7 + payloadLength (p g) = unfold size in refl in
+    rw (body-is e) (rule g, n, omega (arith, most e, whole e, payload-length (p g) (whole e), z), fit g n)
+
+shared-slice-read-ruling : tie.Need-shared-slice-read-ruling
+shared-slice-read-ruling c = let e = t (c .before .before .before .before .before) .before in omega (arith, least e)
+
+shared-slice-read-ruling-2 : tie.Need-shared-slice-read-ruling-2
+shared-slice-read-ruling-2 c = let e = t (c .before .before .before .before .before .before) .before in omega (arith, least e)
+
+ruling-requires : tie.Need-ruling-requires
+ruling-requires c κs =
+    let k = c .before .before in
+    let g = k .before .before .before .before in
+    let n : length (buffer g) ≡ 1024 = search needs in
+    omega (arith, rw (body-is (t g .before)) at (k .keep .ensures .0), fit g n)
+
+returns-4 : tie.Need-returns-4
+returns-4 c =
+    let k = c .before .before .before in
+    let g = k .before .before .before .before in
+    let e = t g .before in
+    let s = came (e .before) in
+    let b = body-is e in
+    judges (s .args .settings) (s .args .r) (buffer g) (p g) (now (s .args .joined)) noRuling (in-rule (said (e .before) .before)) (there (e .before) .0) (whole e)
+    (t g .transfer .ensures) refl (g .judge-packet .ensures) (rw b at (k .keep .ensures .0)) (rw b at (k .keep .ensures .1)) (c .ruling .ensures)
+
+pub ask-spec : {M : Type 1} → statement M
+ask-spec =
+    tie.close
+    (tie.spec (λ c κs. search needs) (λ c κs. search needs) returns (λ c κs. search needs) (λ c. search needs) (λ c. search needs)
+    (λ c κs. search needs) returns-2 (λ c κs. search needs) returns-3 (λ c κs. search needs) judge-packet-requires sub-keep sub-keep-2
+    part-keep-start (λ c. search needs) keep-requires shared-slice-read-ruling shared-slice-read-ruling-2 ruling-requires returns-4)

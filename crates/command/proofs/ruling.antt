@@ -1,0 +1,2 @@
+-- The laws of ruling.
+pub mod Laws

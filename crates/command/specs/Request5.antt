@@ -1,0 +1,144 @@
+-- Request 5, "ask before sending": "Split judging a packet from carrying out the judgement; the receive call uses both, and only carrying out writes the response.
+-- Judging then carrying out must equal document 01's rules on every controller and complete packet, and so must carrying out on any other controller that 4 lets
+-- pass; neither touches a half-received packet. A judgement goes stale when the controller changes, so it keeps the mode, open command and held data it was made
+-- under. Refusals: 5 for judging bytes that aren't exactly one packet; for carrying out, 2 for a judgement without error codes that no packet draws from a controller
+-- that 3 lets pass and that has what it keeps, then 4 exactly when a kept item differs; nothing changes; all after 1 and 3." The contracts of `judge_packet` and
+-- `carry_out` are judgeCall and carryCall. Proved in proofs/Request5.antt.
+use Prim.Native.Nat.{ℕ, _<_, _≤_}
+use mathlib.Core.Path.{_≡_}
+use mathlib.Core.Logic.{_↔_, _⊎_}
+use mathlib.Core.Bool.{true}
+use mathlib.Core.List.{List, [], _∷_, _++_, List·Memᴰ}
+use mathlib.Core.Option.{Option, none, some}
+use lib.ListN.{length, take}
+use Rattle.packet.specs.Answer.{Answers}
+use Rattle.packet.specs.Number.{Bytes}
+use Rattle.packet.specs.Packet.{packetOf, error, whole}
+use Rattle.packet.specs.Stream.{packets, rest}
+use Rattle.packet.specs.Writer.{written}
+use Rattle.command.specs.Transfer.{Closed}
+use Rattle.command.specs.Faults.{arrived, codesOf}
+use Rattle.command.specs.Response.{response, responseType, codesIn, wrongIn}
+use Rattle.command.specs.Player.{judged, next, responses, after}
+use Rattle.command.specs.Controller.{stateOf, receiverIn}
+use Rattle.command.specs.Endpoint.{receiveCall}
+use Rattle.command.specs.Encoder.{Refuses, Writes}
+use Rattle.command.specs.Sending.{Sending, sentTo, Ready, Boundary}
+use Rattle.command.specs.Ruling.{hasBit, codesTold, byteTold, meant, itemsOf, itemsKept}
+use Rattle.command.specs.Asking.{judgeCall, Carrying, carryCall}
+use Rattle.command.specs.Demand1.{Ascending, OutOfRule}
+use Rattle.command.specs.declared.controller.Controller.{Controller}
+use Rattle.command.specs.declared.ruling.JudgementRecord.{JudgementRecord}
+
+-- the bytes are exactly one packet
+abbrev pub OnePacket : List ℕ → Type 0
+OnePacket p = packets p ≡ p ∷ []
+
+-- a record as its type gives it: 1,024 bytes
+pub record Made (j : JudgementRecord) : Type 0 where
+  pub size : length (j .joined) ≡ 1024
+  pub bytes : Bytes (j .joined)
+
+-- the judgement of a packet; `lent` is what stood where it was put
+abbrev pub judgementOf : Controller → List ℕ → JudgementRecord → JudgementRecord
+judgementOf c p lent = judgeCall c p lent .judgement
+
+-- some packet draws this very judgement from a controller that 3 lets pass and that has what it keeps
+pub record Drawn (j : JudgementRecord) : Type 0 where
+  pub controller : Controller
+  pub ready : Ready controller
+  pub keeps : itemsOf controller ≡ itemsKept j
+  pub packet : List ℕ
+  pub bytes : Bytes packet
+  pub draws : judgeCall controller packet j ≡ record { refusal = none; judgement = j }
+
+-- "a judgement without error codes"
+abbrev pub Uncoded : JudgementRecord → Type 0
+Uncoded j = codesIn (meant j) ≡ []
+
+-- "document 01's rules" on the controller c and the packet p: the response at the output's start, the rest untouched, and the state afterwards. The receiver stays,
+-- and the controller is in rule.
+pub record Obeys (c : Controller) (p out : List ℕ) (r : Carrying) : Type 0 where
+  pub answer : r .answer ≡ Writes (length (response (c .settings) (arrived p) (judged (stateOf c) p)))
+  pub output : r .output ≡ written (response (c .settings) (arrived p) (judged (stateOf c) p)) out
+  pub state : stateOf (r .controller) ≡ next (stateOf c) p
+  pub receiver : receiverIn (r .controller) ≡ receiverIn c
+  pub ready : Ready (r .controller)
+
+-- the error packet with a judgement's codes, and what it leaves
+pub record SendsCodes (c : Controller) (j : JudgementRecord) (out : List ℕ) (r : Carrying) : Type 0 where
+  pub ascending : Ascending 0 (codesIn (meant j))
+  pub answer : r .answer ≡ Writes (length (packetOf error (j .ruling .cmd1) (j .ruling .cmd2) whole (codesIn (meant j))))
+  pub output : r .output ≡ written (packetOf error (j .ruling .cmd1) (j .ruling .cmd2) whole (codesIn (meant j))) out
+  pub settings : r .controller .settings ≡ c .settings
+  pub closed : stateOf (r .controller) .transfer ≡ Closed
+
+pub record Request5 : Type 0 where
+  -- The judge call. 3 exactly when the controller is out of rule,
+  pub rule : (c : Controller) (b : List ℕ) (lent : JudgementRecord) → (judgeCall c b lent .refusal ≡ some 3) ↔ OutOfRule c
+  -- then 5 exactly when the bytes are not exactly one packet;
+  pub one : (c : Controller) (b : List ℕ) (lent : JudgementRecord) → (judgeCall c b lent .refusal ≡ some 5) ↔ ((OutOfRule c → ⊥) × (OnePacket b → ⊥))
+  -- no other number, and a refusal touches nothing lent
+  pub refuses : (c : Controller) (b : List ℕ) (lent : JudgementRecord) (n : ℕ) → judgeCall c b lent .refusal ≡ some n
+      → ((n ≡ 3) ⊎ (n ≡ 5)) × (judgementOf c b lent ≡ lent)
+  -- else the judgement: the codes that document 01 gives the packet, the type of the response, and the byte that is wrong;
+  pub says : (c : Controller) (p : List ℕ) (lent : JudgementRecord) → Ready c → OnePacket p
+      → let j = judgementOf c p lent in
+      (judgeCall c p lent .refusal ≡ none)
+      × (codesIn (meant j) ≡ codesIn (judged (stateOf c) p))
+      × (responseType (meant j) ≡ responseType (judged (stateOf c) p))
+      × (j .ruling .wrong ≡ byteTold (wrongIn (judged (stateOf c) p)))
+  -- the codes of a record are the bits of its number
+  pub bits : (m n : ℕ) → List·Memᴰ n (codesOf (codesTold m)) ↔ ((1 ≤ n) × (n ≤ 11) × (hasBit m n ≡ true))
+  -- "it keeps the mode, open command and held data it was made under"
+  pub keeps : (c : Controller) (p : List ℕ) (lent : JudgementRecord) → Ready c → Made lent → OnePacket p → itemsKept (judgementOf c p lent) ≡ itemsOf c
+  -- judging twice gives the same
+  pub twice : (c : Controller) (p : List ℕ) (lent : JudgementRecord) → Ready c → Made lent → OnePacket p
+      → judgeCall c p (judgementOf c p lent) ≡ judgeCall c p lent
+  -- The call that carries out. "Judging then carrying out must equal document 01's rules on every controller and complete packet, and so must carrying out on any
+  -- other controller that 4 lets pass": on the controller d what was judged on c. A read answers the values of d.
+  pub follows : (c d : Controller) (p : List ℕ) (lent : JudgementRecord) (out : List ℕ) → Ready c → Ready d → Made lent → OnePacket p → 64 ≤ length out
+      → itemsOf d ≡ itemsOf c
+      → Obeys d p out (carryCall d (judgementOf c p lent) out)
+  -- "the receive call uses both": a call that is handed a packet at a packet boundary does what judging and carrying out does,
+  pub receives : (c : Controller) (p : List ℕ) (lent : JudgementRecord) (out : List ℕ) (n : ℕ) → Boundary c → Made lent → OnePacket p
+      → let r = carryCall c (judgementOf c p lent) out in
+      r .answer ≡ Writes n
+      → (receiveCall c p out .answer ≡ Answers (length p) n)
+      × (receiveCall c p out .output ≡ r .output)
+      × (stateOf (receiveCall c p out .controller) ≡ stateOf (r .controller))
+  -- and so however its bytes were cut
+  pub cut : (c : Controller) (p : List ℕ) (s : Sending p) (lent : JudgementRecord) (out : List ℕ) (n : ℕ) → Boundary c → Made lent → OnePacket p
+      → let r = carryCall c (judgementOf c p lent) out in
+      r .answer ≡ Writes n → (sentTo c s .given ≡ take n (r .output) ∷ []) × (stateOf (sentTo c s .state) ≡ stateOf (r .controller))
+  -- "neither touches a half-received packet": judging hands no controller back, and whatever is carried out leaves header, sum, count and payload.
+  pub half : (c : Controller) (j : JudgementRecord) (out : List ℕ) → receiverIn (carryCall c j out .controller) ≡ receiverIn c
+  -- Over a run: the bytes a are received, something is carried out, and the bytes b are received. The packet that was half received then is judged on all its bytes,
+  -- and on the state as it is after that.
+  pub run : (c : Controller) (a : List ℕ) (s : Sending a) (j : JudgementRecord) (out b : List ℕ) (t : Sending b) → Boundary c → Made j
+      → let d = carryCall (sentTo c s .state) j out .controller in
+      (sentTo d t .given ≡ responses (stateOf d) (packets (rest a ++ b))) × (stateOf (sentTo d t .state) ≡ after (stateOf d) (packets (rest a ++ b)))
+  -- Its refusals, in their order. 1 exactly when the output is too short,
+  pub short : (c : Controller) (j : JudgementRecord) (out : List ℕ) → (carryCall c j out .answer ≡ Refuses 1) ↔ (length out < 64)
+  -- 3 exactly when the controller is out of rule,
+  pub outside : (c : Controller) (j : JudgementRecord) (out : List ℕ) → (carryCall c j out .answer ≡ Refuses 3) ↔ ((64 ≤ length out) × OutOfRule c)
+  -- 2 exactly for "a judgement without error codes that no packet draws from a controller that 3 lets pass and that has what it keeps",
+  pub forged : (c : Controller) (j : JudgementRecord) (out : List ℕ) → Made j
+      → (carryCall c j out .answer ≡ Refuses 2) ↔ ((64 ≤ length out) × (OutOfRule c → ⊥) × Uncoded j × (Drawn j → ⊥))
+  -- "then 4 exactly when a kept item differs";
+  pub stale : (c : Controller) (j : JudgementRecord) (out : List ℕ) → Made j
+      → (carryCall c j out .answer ≡ Refuses 4)
+      ↔ ((64 ≤ length out) × (OutOfRule c → ⊥) × ((Uncoded j → ⊥) ⊎ Drawn j) × (itemsOf c ≡ itemsKept j → ⊥))
+  -- no other number, and "nothing changes"
+  pub untouched : (c : Controller) (j : JudgementRecord) (out : List ℕ) (n : ℕ) → carryCall c j out .answer ≡ Refuses n
+      → (n ≤ 4) × (carryCall c j out ≡ record { answer = Refuses n; controller = c; output = out })
+  -- what the judge call gives is never refused with 2
+  pub genuine : (c d : Controller) (p : List ℕ) (lent : JudgementRecord) (out : List ℕ) → Ready c → Made lent → OnePacket p
+      → carryCall d (judgementOf c p lent) out .answer ≡ Refuses 2
+      → ⊥
+  -- a judgement with error codes, from wherever it comes: "one byte for each code, ascending, none twice"; "an error packet closes any open transfer, drops its data
+  -- and changes no setting"
+  pub coded : (c : Controller) (j : JudgementRecord) (out : List ℕ) → Ready c → 64 ≤ length out → (Uncoded j → ⊥) → itemsOf c ≡ itemsKept j
+      → SendsCodes c j out (carryCall c j out)
+  -- and a controller in rule stays so, whatever judgement is handed in
+  pub stays : (c : Controller) (j : JudgementRecord) (out : List ℕ) → Ready c → Made j → Ready (carryCall c j out .controller)
