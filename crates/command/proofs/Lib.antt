@@ -1,4 +1,4 @@
--- Demands 1 and 2 of the endpoint, requests 2 and 4, and the laws that crates above cite.
+-- Demands 1 and 2 of the endpoint, requests 2, 4 and 5, and the laws that crates above cite.
 pub mod Refusals
 pub mod Demand1
 pub mod Demand2
@@ -11,3 +11,5 @@ pub use Rattle.command.proofs.player.Laws as PlayerLaws
 pub use Rattle.command.proofs.player.Offences as PlayerOffences
 pub use Rattle.command.proofs.endpoint.Laws as EndpointLaws
 pub use Rattle.command.proofs.encoder.Lists as EncoderLists
+pub use Rattle.command.proofs.asking.Laws as AskingLaws
+pub use Rattle.command.proofs.carrying.Laws as CarryingLaws

@@ -15,6 +15,8 @@ use Rattle.command.specs.declared.table.Found.{Found}
 use Rattle.command.specs.declared.table.Found.the-variants.{Known, Unknown}
 use Rattle.command.specs.Value.{valueFrom}
 use Rattle.command.specs.Endpoint as endpoint
+use Rattle.command.specs.Asking as asking
+use Rattle.command.specs.declared.ruling.JudgementRecord.{JudgementRecord}
 use Rattle.command.specs.Encoder as encoding
 use Rattle.report.specs.Report as tuning
 use Rattle.report.specs.Claim.{Demand3}
@@ -41,6 +43,30 @@ pub record Tells (byte : Option ℕ) (n : ℕ) : Type 0 where
 pub record Receives (after : endpoint.After) (refusal taken size wrong : ℕ) (controller : Controller) (output : List ℕ) : Type 0 where
   pub performed : Performed (after .answer) (after .controller) (after .output) refusal taken size controller output
   pub names : Tells (after .wrong) wrong
+
+-- A refusal's number, 0 where there is none, and what it says.
+abbrev pub numberOf : Option ℕ → ℕ
+numberOf none = 0
+numberOf (some n) = n
+
+abbrev pub refusalSaid : ℕ → Option ℕ
+refusalSaid n = cond (eqb n 0) none (some n)
+
+-- A judge call that does as `after` says: the refusal, and the judgement afterwards.
+pub record Asks (after : asking.Judging) (refusal : ℕ) (judgement : JudgementRecord) : Type 0 where
+  pub refused : refusal ≡ numberOf (after .refusal)
+  -- the number says the refusal
+  pub says : refusalSaid refusal ≡ after .refusal
+  pub leaves : judgement ≡ after .judgement
+
+-- A call that carries out a judgement as `after` says: the refusal, the response's length, the controller and the output afterwards.
+pub record Carries (after : asking.Carrying) (refusal size : ℕ) (controller : Controller) (output : List ℕ) : Type 0 where
+  pub refused : refusal ≡ encoding.refusalOf (after .answer)
+  pub count : size ≡ encoding.lengthOf (after .answer)
+  -- the two numbers say the answer
+  pub says : encoding.outcomeTold refusal size ≡ after .answer
+  pub leaves : controller ≡ after .controller
+  pub written : output ≡ after .output
 
 -- A call of the encoder, or of the standard list, that does as `after` says: the refusal, the length written at the output's start, the output afterwards.
 pub record Emits (after : encoding.After) (refusal size : ℕ) (output : List ℕ) : Type 0 where

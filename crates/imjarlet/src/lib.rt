@@ -3,12 +3,16 @@
 // have fields of fixed width and no holes.
 //
 //   endpoint  a head at power-up, and the receive call over a controller that the caller lends
+//   asking    what a packet would draw, and carrying out a judgement, over what the caller lends
 //   encoder   the encoder and the standard shipping list
 //   verdict   the answer to a tuning report
+mod asking;
 mod encoder;
 mod endpoint;
 mod verdict;
 
+pub use asking::imjarlet_carry_out;
+pub use asking::imjarlet_judge;
 pub use encoder::imjarlet_encode;
 pub use encoder::imjarlet_standard_list;
 pub use endpoint::imjarlet_receive;

@@ -1,0 +1,2 @@
+-- The laws of asking.
+pub mod Laws
