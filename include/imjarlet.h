@@ -16,10 +16,10 @@
  * What the caller owes a call: a pointer with a length is valid for that many bytes, and may be
  * NULL only where the length is 0; any other pointer is valid and aligned for its type; and what a
  * call may write (no const) overlaps nothing else that it is lent. Nothing is owed of the bytes
- * themselves, those of a controller and of settings included: the calls answer on all.
+ * themselves, those of a controller, of settings and of a judgement included: the calls answer on all.
  *
  * A call returns 0 or the number of its refusal. In either case it sets all of *taken, *size, *wrong
- * and *verdict that it is lent, whatever stood there.
+ * and *verdict that it is lent, whatever stood there. A judgement is set where it is not refused.
  */
 #ifndef IMJARLET_H
 #define IMJARLET_H
@@ -35,7 +35,7 @@ typedef uint64_t imjarlet_size;
 
 /* Sizes, in bytes. */
 enum {
-    IMJARLET_OUTPUT_LEAST = 64,        /* the shortest output that a receive call or the encoder takes */
+    IMJARLET_OUTPUT_LEAST = 64,        /* the shortest output that a receive call, carrying out or the encoder takes */
     IMJARLET_LIST_OUTPUT_LEAST = 128,  /* the shortest output that the standard list takes */
     IMJARLET_LIST_LENGTH = 111,        /* the length of the standard list */
     IMJARLET_HOLD = 1024,              /* the most payload bytes that are held of a transfer, and of a packet */
@@ -75,14 +75,32 @@ enum {
 /* What a receive call says for the wrong byte where it names none: all bits set, which is no byte's number. */
 #define IMJARLET_NO_WRONG_BYTE ((imjarlet_size)-1)
 
-/* What a call refuses. It then takes nothing and leaves output and controller as they were. */
+/* The codes of a judgement: the bit of each. 0 is none, and no bit but those of the codes 01 to 0B counts. */
+#define IMJARLET_CODE_BIT(code) (1u << (code))
+
+/* What a judgement says for the wrong byte where it names none: all bits set, as above, of 16. */
+#define IMJARLET_JUDGED_NO_WRONG_BYTE 0xFFFF
+
+/* What a judgement asks to be done. */
+enum {
+    IMJARLET_ACCEPTS_NOTHING = 0, /* the packet draws an error packet */
+    IMJARLET_ACCEPTS_HOLD = 1,    /* the data are held: flags 01 and 02 */
+    IMJARLET_ACCEPTS_WRITE = 2,   /* a write is carried out: flags 00 and 03 */
+    IMJARLET_ACCEPTS_READ = 3
+};
+
+/* What a call refuses. It then takes nothing and leaves output, controller and judgement as they were. */
 enum {
     IMJARLET_NO_REFUSAL = 0,    /* also where an error packet is the answer; of a report: it is accepted */
     IMJARLET_SHORT_OUTPUT = 1,  /* the output is shorter than 64 bytes, or 128 for the standard list */
-    IMJARLET_NOT_ALLOWED = 2,   /* the encoder: a value is not allowed, or the command is not in the table */
-    IMJARLET_OUT_OF_RULE = 3    /* a setting that is not allowed; run 1 outside display mode 4; over 1,024
+    IMJARLET_NOT_ALLOWED = 2,   /* the encoder: a value is not allowed, or the command is not in the table;
+                                   carrying out: a judgement without error codes that no packet draws from
+                                   a controller that 3 lets pass and that has what the judgement keeps */
+    IMJARLET_OUT_OF_RULE = 3,   /* a setting that is not allowed; run 1 outside display mode 4; over 1,024
                                    held bytes; a transfer open for a command that is not in the table; or a
                                    half-received packet that already has all its bytes */
+    IMJARLET_STALE = 4,         /* carrying out: the controller has not what the judgement keeps */
+    IMJARLET_NOT_ONE_PACKET = 5 /* judging: the bytes are not exactly one packet */
 };
 
 /* Why a report is refused, and where: the place is counted in bytes from 0. */
@@ -202,6 +220,40 @@ typedef struct {
 } imjarlet_controller;
 
 /*
+ * What a packet was judged under: the display mode, and the open transfer, its command and how many bytes
+ * were held. None was open where active is 0; the other three are then what stood there, and count for
+ * nothing (held is at most 1,024 even so).
+ */
+typedef struct {
+    uint16_t held;
+    uint8_t mode;
+    uint8_t active;
+    uint8_t cmd1;
+    uint8_t cmd2;
+} imjarlet_kept;
+
+/* What a packet draws. */
+typedef struct {
+    uint16_t codes;   /* bit n is error code n; 0 where the packet has no fault */
+    uint16_t accepts; /* what is asked to be done; 0 with an error */
+    uint16_t wrong;   /* with code 03 the byte that is wrong, counted as for the receive call */
+    uint16_t count;   /* how many bytes the joined data have */
+    uint8_t cmd1;     /* the packet's command, which the response repeats */
+    uint8_t cmd2;
+    imjarlet_kept kept;
+} imjarlet_ruling;
+
+/*
+ * A judgement: 1,040 bytes that the caller owns. Nothing of it says which controller it was made on, and it
+ * may be copied, stored and carried out later or more than once. One that other code has written or damaged
+ * is answered like any other: 2, 4, or what a packet would have drawn.
+ */
+typedef struct {
+    imjarlet_ruling ruling;
+    uint8_t joined[IMJARLET_HOLD]; /* the bytes that were held, behind them what an accepted packet brings */
+} imjarlet_judgement;
+
+/*
  * What is said of a report.
  *   accepted   the trial named (from 0), its score and its end settings; place is 0
  *   refused    place is where; trial and score are 0 and the settings the factory values
@@ -239,6 +291,30 @@ uint32_t imjarlet_reset(imjarlet_controller *c);
 uint32_t imjarlet_receive(imjarlet_controller *c, const uint8_t *input, imjarlet_size input_length,
                           uint8_t *out, imjarlet_size out_length,
                           imjarlet_size *taken, imjarlet_size *size, imjarlet_size *wrong);
+
+/*
+ * Asks what one packet would be answered, and does nothing: the controller is not touched, nor a packet that
+ * it has half received, which has no say in the answer. *j is then the judgement: joined begins with the
+ * held bytes of the open transfer, if one is open, and behind them stands the payload, if the packet is
+ * accepted; the array behind the first `count` bytes is as it was. Refusals 3 and 5, tested in this order;
+ * *j is then as it was.
+ */
+uint32_t imjarlet_judge(const imjarlet_controller *c, const uint8_t *packet, imjarlet_size packet_length,
+                        imjarlet_judgement *j);
+
+/*
+ * Carries a judgement out, on the controller that it was made on or on another: what a receive call does when
+ * the packet is complete, but that a half-received packet is never touched. The response is the first *size
+ * bytes (7 or more) of the output, the rest of which is untouched. A read answers the values of the controller
+ * that it is carried out on. Refusals 1, 3, 2 and 4, tested in this order; *size is then 0.
+ *
+ * A judgement with an error code is never refused with 2, whatever else it says: its codes are sent and an open
+ * transfer is closed. 4 is drawn exactly where the display mode is not the kept one, or one of the two has a
+ * transfer open and the other none, or both have one and its command, the number of held bytes or one of these
+ * is another; it is drawn also where that item has no bearing on the answer.
+ */
+uint32_t imjarlet_carry_out(imjarlet_controller *c, const imjarlet_judgement *j,
+                            uint8_t *out, imjarlet_size out_length, imjarlet_size *size);
 
 /*
  * The whole-packet write of what *settings has for the command CMD1 CMD2, at the output's start, *size

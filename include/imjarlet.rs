@@ -11,7 +11,7 @@
 //! allowed.
 #![allow(dead_code)]
 
-/// The shortest output that a receive call or the encoder takes.
+/// The shortest output that a receive call, carrying out or the encoder takes.
 pub const OUTPUT_LEAST: usize = 64;
 /// The shortest output that the standard list takes.
 pub const LIST_OUTPUT_LEAST: usize = 128;
@@ -150,6 +150,46 @@ pub struct Controller {
     pub hold: [u8; HOLD],
 }
 
+/// What a packet was judged under: the display mode, and the open transfer, its command and how many bytes
+/// were held. None was open where `active` is 0; the other three are then what stood there.
+#[repr(C)]
+#[derive(Clone, Copy, PartialEq, Eq, Debug)]
+pub struct Kept {
+    pub held: u16,
+    pub mode: u8,
+    pub active: u8,
+    pub cmd1: u8,
+    pub cmd2: u8,
+}
+
+/// What a packet draws.
+#[repr(C)]
+#[derive(Clone, Copy, PartialEq, Eq, Debug)]
+pub struct Ruling {
+    /// Bit n is error code n (01 to 0B); 0 where the packet has no fault.
+    pub codes: u16,
+    /// What is asked to be done, as a number: `asks` gives its name. 0 with an error.
+    pub accepts: u16,
+    /// With code 03 the byte that is wrong, or all bits set: `wrong` gives it.
+    pub wrong: u16,
+    /// How many bytes the joined data have.
+    pub count: u16,
+    /// The packet's command, which the response repeats.
+    pub cmd1: u8,
+    pub cmd2: u8,
+    pub kept: Kept,
+}
+
+/// A judgement: what `Controller::judge` says of a packet and `Controller::carry_out` does. All its fields
+/// may be read and written: one that no packet draws is refused.
+#[repr(C)]
+#[derive(Clone, PartialEq, Eq, Debug)]
+pub struct Judgement {
+    pub ruling: Ruling,
+    /// The bytes that were held, behind them what an accepted packet brings.
+    pub joined: [u8; HOLD],
+}
+
 // As include/imjarlet.h has it, on every target that this is compiled for; no type has padding.
 const _: () = {
     use core::mem::{offset_of, size_of};
@@ -163,6 +203,8 @@ const _: () = {
     assert!(offset_of!(Registers, header) == 9 && offset_of!(Registers, sum) == 15);
     assert!(offset_of!(Controller, registers) == 56 && offset_of!(Controller, buffer) == 72);
     assert!(offset_of!(Controller, hold) == 1096 && size_of::<Controller>() == 2120);
+    assert!(size_of::<Kept>() == 6 && offset_of!(Ruling, kept) == 10 && size_of::<Ruling>() == 16);
+    assert!(offset_of!(Judgement, joined) == 16 && size_of::<Judgement>() == 1040);
     assert!(offset_of!(raw::Verdict, settings) == 24 && size_of::<raw::Verdict>() == 80);
 };
 
@@ -171,10 +213,26 @@ const _: () = {
 pub enum Refusal {
     /// 1: the output is shorter than 64 bytes, or 128 for the standard list.
     ShortOutput,
-    /// 2: the encoder was given a value that is not allowed, or a command that is not in the table.
+    /// 2: the encoder was given a value that is not allowed, or a command that is not in the table; or a
+    /// judgement without error codes was to be carried out that no packet draws.
     NotAllowed,
     /// 3: the controller or the settings are out of rule.
     OutOfRule,
+    /// 4: the controller has not what the judgement keeps.
+    Stale,
+    /// 5: the bytes to be judged are not exactly one packet.
+    NotOnePacket,
+}
+
+/// What a judgement asks to be done.
+#[derive(Clone, Copy, PartialEq, Eq, Debug)]
+pub enum Asks {
+    /// The data are held: flags 01 and 02.
+    Hold = 1,
+    /// A write is carried out: flags 00 and 03.
+    Write = 2,
+    /// A read is answered.
+    Read = 3,
 }
 
 /// What a receive call answers.
@@ -242,10 +300,12 @@ pub struct Refused {
 /// The calls as the library exports them: a slice goes as a pointer and then a length, and a call
 /// returns 0 or the number of its refusal.
 pub mod raw {
-    use super::{Controller, Settings};
+    use super::{Controller, Judgement, Settings};
 
     /// What a receive call says for the wrong byte where it names none: all bits set.
     pub const NO_WRONG_BYTE: u64 = u64::MAX;
+    /// What a judgement says there.
+    pub const JUDGED_NO_WRONG_BYTE: u16 = u16::MAX;
 
     /// What is said of a report: the trial's number, score and end settings, or the place.
     #[repr(C)]
@@ -268,6 +328,19 @@ pub mod raw {
             taken: *mut u64,
             size: *mut u64,
             wrong: *mut u64,
+        ) -> u32;
+        pub fn imjarlet_judge(
+            c: *const Controller,
+            packet: *const u8,
+            packet_length: u64,
+            j: *mut Judgement,
+        ) -> u32;
+        pub fn imjarlet_carry_out(
+            c: *mut Controller,
+            j: *const Judgement,
+            out: *mut u8,
+            out_length: u64,
+            size: *mut u64,
         ) -> u32;
         pub fn imjarlet_encode(
             cmd1: u8,
@@ -296,6 +369,8 @@ fn refusal(number: u32) -> Refusal {
         1 => Refusal::ShortOutput,
         2 => Refusal::NotAllowed,
         3 => Refusal::OutOfRule,
+        4 => Refusal::Stale,
+        5 => Refusal::NotOnePacket,
         _ => unreachable!("no call refuses with {number}"),
     }
 }
@@ -358,6 +433,50 @@ impl Controller {
             }),
             _ => Err(refusal(number)),
         }
+    }
+
+    /// What one packet would be answered, with nothing done: a packet that is half received has no say in
+    /// it. Refuses a controller that is out of rule and bytes that are not exactly one packet.
+    pub fn judge(&self, packet: &[u8]) -> Result<Judgement, Refusal> {
+        // Zeros are a judgement, as any bytes are.
+        let mut j: Judgement = unsafe { core::mem::zeroed() };
+        let length = packet.len() as u64;
+        match unsafe { raw::imjarlet_judge(self, packet.as_ptr(), length, &mut j) } {
+            0 => Ok(j),
+            number => Err(refusal(number)),
+        }
+    }
+
+    /// Carries a judgement out, be it of this controller or of another: the response's length, which is at
+    /// the output's start. A half-received packet stays. Refuses a short output, a controller that is out of
+    /// rule, a judgement without error codes that no packet draws, and one that is stale, as this controller
+    /// has not what it keeps.
+    pub fn carry_out(&mut self, j: &Judgement, out: &mut [u8]) -> Result<usize, Refusal> {
+        let length = out.len() as u64;
+        emitted(|size| unsafe { raw::imjarlet_carry_out(self, j, out.as_mut_ptr(), length, size) })
+    }
+}
+
+impl Ruling {
+    /// The error codes, ascending; none where the packet is accepted.
+    pub fn codes(&self) -> impl Iterator<Item = u8> {
+        let codes = self.codes;
+        (0x01..=0x0B).filter(move |&code| codes >> code & 1 == 1)
+    }
+
+    /// What is asked to be done: nothing with an error, nor by a number that no judgement has.
+    pub fn asks(&self) -> Option<Asks> {
+        match (self.codes, self.accepts) {
+            (0, 1) => Some(Asks::Hold),
+            (0, 2) => Some(Asks::Write),
+            (0, 3) => Some(Asks::Read),
+            _ => None,
+        }
+    }
+
+    /// With code 03 the first byte, counted from 0, of the first field that is not allowed, as `Answer` has it.
+    pub fn wrong(&self) -> Option<usize> {
+        (self.wrong != raw::JUDGED_NO_WRONG_BYTE).then_some(self.wrong as usize)
     }
 }
 
