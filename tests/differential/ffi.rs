@@ -14,7 +14,7 @@ use imjarlet::{
 };
 pub use imjarlet::{
     raw::{Verdict, NO_WRONG_BYTE},
-    Controller, Registers, Settings,
+    Controller, Judgement, Kept, Registers, Ruling, Settings,
 };
 use std::mem::transmute;
 
@@ -40,6 +40,18 @@ pub fn receive(
     let (input, from) = (input.as_ptr(), input.len() as u64);
     let (out, to) = (out.as_mut_ptr(), out.len() as u64);
     unsafe { raw::imjarlet_receive(c, input, from, out, to, taken, size, wrong) }
+}
+
+/// What is only read is lent here as what could be written, so that a call that writes there is seen.
+#[inline]
+pub fn judge(c: &mut Controller, packet: &[u8], j: &mut Judgement) -> u32 {
+    unsafe { raw::imjarlet_judge(c, packet.as_ptr(), packet.len() as u64, j) }
+}
+
+#[inline]
+pub fn carry_out(c: &mut Controller, j: &mut Judgement, out: &mut [u8], size: &mut u64) -> u32 {
+    let (out, to) = (out.as_mut_ptr(), out.len() as u64);
+    unsafe { raw::imjarlet_carry_out(c, j, out, to, size) }
 }
 
 #[inline]
@@ -206,6 +218,29 @@ impl From<&model::Controller> for Controller {
             registers: c.into(),
             buffer: c.state.buffer,
             hold: c.hold,
+        }
+    }
+}
+
+impl From<&model::Judgement> for Judgement {
+    fn from(j: &model::Judgement) -> Judgement {
+        Judgement {
+            ruling: Ruling {
+                codes: j.codes,
+                accepts: j.accepts,
+                wrong: j.wrong,
+                count: j.count.try_into().unwrap(),
+                cmd1: j.command[0],
+                cmd2: j.command[1],
+                kept: Kept {
+                    held: j.transfer.held.try_into().unwrap(),
+                    mode: j.mode,
+                    active: j.transfer.mark,
+                    cmd1: j.transfer.command[0],
+                    cmd2: j.transfer.command[1],
+                },
+            },
+            joined: j.joined,
         }
     }
 }

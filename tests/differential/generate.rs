@@ -1,7 +1,7 @@
 //! The seeded generator: packets, transfers, controllers and reports, right ones and wrong ones.
 
 use super::ffi::Wide;
-use super::model::{self, Command, Controller, Settings, State, Transfer};
+use super::model::{self, Command, Controller, Judgement, Settings, State, Transfer};
 
 /// Splitmix64.
 pub struct Rng(u64);
@@ -868,6 +868,320 @@ pub fn damaged_controller(rng: &mut Rng) -> (Controller, Wide) {
         }
     }
     (c, wide)
+}
+
+// ---------------------------------------------------------------------------------------------
+// Judgements
+
+/// Data that begin with what is held and that the command may well allow.
+fn goes_on(rng: &mut Rng, command: Command, held: &[u8]) -> Vec<u8> {
+    let mut data = allowed(rng, command);
+    for _ in 0..6 {
+        let start = held.len().min(data.len());
+        data[..start].copy_from_slice(&held[..start]);
+        if command.allows(&data) {
+            break;
+        }
+        data = allowed(rng, command);
+    }
+    data
+}
+
+/// A packet that goes on with the transfer that is open, now and then with too much or too little.
+fn part(rng: &mut Rng, c: &Controller) -> Option<Vec<u8>> {
+    let transfer = &c.state.transfer;
+    let [cmd1, cmd2] = transfer.command;
+    let command = Command::from_bytes(cmd1, cmd2).filter(|_| transfer.open())?;
+    let held = c.state.buffer.get(..transfer.held)?;
+    let flags = rng.pick(&[2, 3, 3, 3, 3, 0, 1]);
+    let data = match rng.below(8) {
+        0 => {
+            let length = rng.pick(&[0, 1, 2, 1024 - held.len(), 1025 - held.len()]);
+            rng.bytes(length)
+        }
+        1 => {
+            let length = rng.below(20);
+            rng.bytes(length)
+        }
+        2 => doubtful(rng, command).split_off(held.len().min(command.size())),
+        _ => goes_on(rng, command, held).split_off(held.len().min(command.size())),
+    };
+    let cmd = match rng.below(12) {
+        0 => self::command(rng).bytes(),
+        1 => odd_command(rng),
+        _ => [cmd1, cmd2],
+    };
+    Some(packet(rng.pick(&[2, 2, 2, 2, 2, 2, 4, 3]), cmd, flags, &data))
+}
+
+/// What is asked of this controller: mostly one packet.
+pub fn asked(rng: &mut Rng, c: &Controller) -> Vec<u8> {
+    let open = c.state.transfer.open();
+    let mut bytes = match part(rng, c) {
+        Some(part) if open && !rng.one_in(3) => part,
+        _ => {
+            let longest = if rng.one_in(8) { 65535 } else { 1100 };
+            let mut parts = Vec::new();
+            some_packets(rng, &mut parts, longest);
+            let at = rng.below(parts.len().max(1));
+            parts.get(at).cloned().unwrap_or_default()
+        }
+    };
+    if rng.one_in(8) {
+        spoil(rng, &mut bytes);
+    }
+    match rng.below(40) {
+        0 => {
+            bytes.pop();
+        }
+        1 => bytes.push(rng.byte()),
+        2 => bytes.truncate(rng.below(bytes.len() + 1)),
+        3 => bytes.extend(write(rng)),
+        4 => {
+            // Another length than the field says.
+            let at = rng.pick(&[4, 5]);
+            bytes[at] = bytes[at].wrapping_add(rng.pick(&[1, 255]));
+        }
+        5 => {
+            let length = rng.below(10);
+            bytes = rng.bytes(length);
+        }
+        _ => {}
+    }
+    bytes
+}
+
+/// How another controller than the one that a packet was judged on is like it.
+#[derive(Clone, Copy, PartialEq, Eq, Debug)]
+pub enum Like {
+    /// It has what the judgement keeps, and other settings and another half-received packet.
+    Kept,
+    /// One item is another.
+    Mode,
+    Open,
+    Command,
+    Held,
+    Bytes,
+    /// What is no kept item is another: the mark that says open, what stands behind the held bytes, and what
+    /// stands beside a transfer that is not open.
+    Beside,
+    Damaged,
+}
+
+/// Another controller, that has what this one keeps but for one item, where there is such a one.
+pub fn alike(rng: &mut Rng, from: &Controller, like: Like) -> (Controller, Wide) {
+    let (mut c, wide) = if like == Like::Damaged {
+        damaged_controller(rng)
+    } else {
+        (controller_in_rule(rng), Wide::default())
+    };
+    let settings = &mut c.state.settings;
+    let mode = from.state.settings.get(Command::Mode).to_vec();
+    if mode != settings.get(Command::Mode) && like != Like::Damaged {
+        settings.set(Command::Run, &[0]);
+    }
+    settings.set(Command::Mode, &mode);
+    c.state.buffer = from.state.buffer;
+    c.state.transfer = from.state.transfer;
+    let transfer = &mut c.state.transfer;
+    let held = transfer.held.min(model::HOLD);
+    match like {
+        Like::Kept | Like::Damaged => {}
+        Like::Mode => {
+            let others: Vec<u8> = [0, 1, 2, 4].into_iter().filter(|&m| [m] != mode[..]).collect();
+            c.state.settings.set(Command::Mode, &[rng.pick(&others)]);
+            c.state.settings.set(Command::Run, &[0]);
+        }
+        Like::Open if transfer.open() => transfer.mark = 0,
+        Like::Open => {
+            *transfer = Transfer {
+                mark: 1,
+                command: command(rng).bytes(),
+                held: rng.pick(&[0, 0, 0, 1, transfer.held]),
+            }
+        }
+        Like::Command => transfer.command = command(rng).bytes(),
+        Like::Held => {
+            transfer.held = match rng.below(3) {
+                0 => held.saturating_sub(1),
+                1 => (held + 1).min(model::HOLD),
+                _ => rng.below(model::HOLD + 1),
+            }
+        }
+        Like::Bytes if held > 0 => {
+            let any = rng.below(held);
+            let at = rng.pick(&[0, held - 1, any]);
+            c.state.buffer[at] ^= 1 << rng.below(8);
+        }
+        Like::Bytes => {}
+        Like::Beside if transfer.open() => {
+            transfer.mark = 2 + rng.below(254) as u8;
+            c.state.buffer[held..].fill_with(|| rng.byte());
+        }
+        Like::Beside => {
+            transfer.held = rng.below(model::HOLD + 1);
+            transfer.command = [rng.byte(), rng.byte()];
+            c.state.buffer.fill_with(|| rng.byte());
+        }
+    }
+    (c, wide)
+}
+
+pub fn like(rng: &mut Rng) -> Like {
+    rng.pick(&[
+        Like::Kept,
+        Like::Kept,
+        Like::Kept,
+        Like::Mode,
+        Like::Open,
+        Like::Command,
+        Like::Held,
+        Like::Bytes,
+        Like::Beside,
+        Like::Damaged,
+    ])
+}
+
+/// What stood where a judgement is to be: anything.
+pub fn any_judgement(rng: &mut Rng) -> Judgement {
+    let mut joined = [rng.byte(); model::HOLD];
+    if rng.one_in(4) {
+        joined.fill_with(|| rng.byte());
+    }
+    Judgement {
+        mode: rng.byte(),
+        transfer: Transfer {
+            mark: rng.byte(),
+            command: [rng.byte(), rng.byte()],
+            held: rng.next() as u16 as usize,
+        },
+        command: [rng.byte(), rng.byte()],
+        codes: rng.next() as u16,
+        accepts: rng.next() as u16,
+        wrong: rng.next() as u16,
+        count: rng.next() as u16 as usize,
+        joined,
+    }
+}
+
+/// A judgement that keeps what this controller has, made up and not drawn.
+fn made_up(rng: &mut Rng, c: &Controller) -> Judgement {
+    let transfer = c.state.transfer;
+    let held = if transfer.open() { transfer.held.min(model::HOLD) } else { 0 };
+    let opened = Command::from_bytes(transfer.command[0], transfer.command[1]);
+    let which = match opened {
+        Some(which) if transfer.open() && !rng.one_in(4) => which,
+        _ => command(rng),
+    };
+    let mut j = any_judgement(rng);
+    j.mode = c.state.settings.get(Command::Mode)[0];
+    j.transfer = transfer;
+    j.command = which.bytes();
+    (j.codes, j.wrong) = (0, model::NO_BYTE);
+    j.joined[..held].copy_from_slice(&c.state.buffer[..held]);
+    j.accepts = rng.pick(&[1, 1, 2, 2, 2, 2, 3]);
+    match j.accepts {
+        model::HOLDS => {
+            j.count = match rng.below(4) {
+                0 => rng.pick(&[held, 1022, 1023, 1024, 1025, 1026]),
+                1 => held + rng.below(model::HOLD + 1 - held),
+                _ => (held + rng.below(20)).min(model::HOLD),
+            };
+        }
+        model::WRITES => {
+            let data = match rng.below(8) {
+                0 => doubtful(rng, which),
+                1 => not_allowed(rng).1,
+                2 => vec![rng.below(2) as u8],
+                3 => goes_on(rng, which, &j.joined[..held])[1..].to_vec(),
+                4 => [allowed(rng, which), vec![rng.byte()]].concat(),
+                _ => goes_on(rng, which, &j.joined[..held]),
+            };
+            j.count = data.len();
+            j.joined[..data.len()].copy_from_slice(&data);
+            if rng.one_in(6) {
+                j.command = [4, 2];
+                (j.count, j.joined[0]) = (1, rng.pick(&[0, 1, 1, 1, 2]));
+            }
+        }
+        _ => {
+            j.count = rng.pick(&[held, held, held, 0, 0, held + 1, which.size()]);
+            if rng.one_in(6) {
+                j.command = [1, 6];
+            }
+        }
+    }
+    j
+}
+
+/// A number about a limit.
+fn limit(rng: &mut Rng, about: usize) -> usize {
+    match rng.below(4) {
+        0 => (about + 1).min(0xFFFF),
+        1 => about.saturating_sub(1),
+        2 => rng.pick(&[0, 1, 1023, 1024, 1025, 1026, 0x7FFF, 0x8000, 0xFFFE, 0xFFFF]),
+        _ => rng.next() as u16 as usize,
+    }
+}
+
+/// One field of a judgement as damage may leave it.
+fn damage(rng: &mut Rng, j: &mut Judgement) {
+    match rng.below(14) {
+        0 => j.codes = 1 << rng.below(16),
+        1 => j.codes = rng.next() as u16,
+        2 => j.codes = rng.pick(&[0, 1, 0x1000, 0x8000, 0xF001, 0x0FFE, 0xFFFF]),
+        3 => j.accepts = rng.pick(&[0, 1, 2, 3, 4, 255, 256, 257, 258, 259, 0xFFFF]),
+        4 => j.wrong = rng.pick(&[0, 1, 2, 16, 17, 255, 0x7FFF, 0xFF00, 0xFFFE, 0xFFFF]),
+        5 => j.count = limit(rng, j.count),
+        6 => j.count = limit(rng, j.transfer.held),
+        7 => j.command = odd_command(rng),
+        8 => j.command = command(rng).bytes(),
+        9 => j.mode = rng.pick(&[0, 1, 2, 3, 4, 5, 128, 132, 255]),
+        10 => j.transfer.mark = rng.pick(&[0, 0, 1, 2, 128, 255]),
+        11 => {
+            j.transfer.command = if rng.one_in(2) {
+                odd_command(rng)
+            } else {
+                command(rng).bytes()
+            }
+        }
+        12 => j.transfer.held = limit(rng, j.transfer.held),
+        _ => {
+            let at = match rng.below(3) {
+                0 => rng.below(18),
+                1 => j.count.min(model::HOLD - 1),
+                _ => rng.below(model::HOLD),
+            };
+            j.joined[at] = match rng.below(3) {
+                0 => j.joined[at] ^ (1 << rng.below(8)),
+                1 => rng.pick(&[0, 1, 2, 4, 255]),
+                _ => rng.byte(),
+            };
+        }
+    }
+}
+
+/// A judgement for this controller that nobody drew: a real one or a made-up one, damaged in some fields or
+/// not, or anything.
+pub fn forged(rng: &mut Rng, c: &Controller) -> Judgement {
+    if rng.one_in(40) {
+        return any_judgement(rng);
+    }
+    let mut j = made_up(rng, c);
+    if rng.one_in(3) {
+        let mut on = *c;
+        let packet = asked(rng, c);
+        let mut drawn = any_judgement(rng);
+        if on.judge(&packet, &mut drawn).is_ok() {
+            j = drawn;
+        }
+    }
+    if rng.one_in(2) {
+        for _ in 0..1 + rng.below(2) {
+            damage(rng, &mut j);
+        }
+    }
+    j
 }
 
 // ---------------------------------------------------------------------------------------------

@@ -3,12 +3,14 @@
 //!     differential [N] [SEED] [--plant K] [--exact]
 //!     differential --cases FILE...
 //!
-//! N packets and N/10 reports (1,000,000 and 100,000). After each call what it returns, every field of
-//! the controller, the numbers or the verdict that it fills, which hold EE before, and every byte of
-//! the output are compared. A case that differs is made smaller, printed as hex, and the exit status
+//! N packets and N/10 reports (1,000,000 and 100,000), and with every few packets some that are judged and
+//! judgements that are carried out. After each call what it returns, every field of the controller, the
+//! numbers or the verdict that it fills, which hold EE before, every byte of a judgement and of the output
+//! are compared. A case that differs is made smaller, printed as hex, and the exit status
 //! is 1. --plant K puts fault K into the model, to see that it is found. --exact lends the library
 //! memory of exactly the length named, for valgrind. --cases takes the stored cases of the crate
-//! vectors (scripts/vectors-data says how they are laid out) in the place of generated ones.
+//! vectors (scripts/vectors-data says how they are laid out) in the place of generated ones; those of
+//! request 5 have their answers with them, and the model must give these.
 
 mod examples;
 mod ffi;
@@ -17,7 +19,7 @@ mod model;
 
 use ffi::{Emitted, Judged, Receipt, Wide};
 use generate::{Report, Rng};
-use model::{Command, Controller, Progress, Settings, Transfer};
+use model::{Command, Controller, Judgement, Progress, Settings, Transfer};
 use std::fmt::Write;
 
 const USAGE: &str = "usage: differential [N] [SEED] [--plant K] [--exact]
@@ -57,6 +59,7 @@ struct Tally {
     long: [u64; 3],
     resets: u64,
     values: Values,
+    asked: Asked,
     /// Reports that were refused with 18, by what their shipping bytes have.
     offences: [u64; OFFENCES.len()],
 }
@@ -70,6 +73,111 @@ struct Values {
     several: [u64; 9],
     /// Those that drew other codes, with which no byte is named, by these.
     beside: [u64; 16],
+}
+
+/// Packets that were judged, and judgements that were carried out.
+#[derive(Default)]
+struct Asked {
+    judged: [u64; 6],
+    /// By what the judgement asks to be done, from the error that is 0.
+    asks: [u64; 4],
+    codes: [u64; 16],
+    /// Judgements of packets that go on with a transfer, by the same.
+    joined: [u64; 4],
+    carried: [u64; 6],
+    /// By what is done: on the same controller, on another that has what is kept, and of a forged one.
+    done: [[u64; 4]; 3],
+    /// Those with a packet half received.
+    half: u64,
+    /// Stale ones by the kept item that differs and no other.
+    stale: [u64; STALE.len()],
+    /// Forged ones that were refused with 2, and what they have.
+    forged: [u64; FORGED.len()],
+    /// Judgements with codes that no packet draws, which are carried out all the same.
+    odd_codes: u64,
+}
+
+/// What makes a judgement stale.
+const STALE: [&str; 7] = [
+    "the mode",
+    "a transfer that was open",
+    "a transfer that is open",
+    "a transfer that is open with nothing held",
+    "the command",
+    "the number of held bytes",
+    "a held byte",
+];
+
+/// The items of these in which a controller and a judgement differ.
+fn differing(c: &Controller, j: &Judgement) -> [bool; STALE.len()] {
+    let (ours, kept) = (&c.state.transfer, &j.transfer);
+    let both = ours.open() && kept.open();
+    let held = ours.held.min(model::HOLD);
+    let opened = ours.open() && !kept.open();
+    [
+        c.state.settings.get(Command::Mode) != [j.mode],
+        !ours.open() && kept.open(),
+        opened && held > 0,
+        opened && held == 0,
+        both && ours.command != kept.command,
+        both && ours.held != kept.held,
+        both && ours.held == kept.held && c.state.buffer[..held] != j.joined[..held],
+    ]
+}
+
+/// What a judgement without error codes may have that no packet draws.
+const FORGED: [&str; 16] = [
+    "an error without any code",
+    "another number for what is to be done",
+    "a wrong byte",
+    "a mode that is not allowed",
+    "over 1,024 bytes that were held",
+    "a transfer of a command that is not in the table",
+    "a command that is not in the table",
+    "over 1,024 joined bytes",
+    "fewer joined bytes than were held",
+    "another command than the open one",
+    "a read while a transfer is open",
+    "a read with data",
+    "a read of 01 06",
+    "a write of another size",
+    "a value that is not allowed",
+    "run 1 outside mode 4",
+];
+
+fn forgeries(j: &Judgement) -> [bool; FORGED.len()] {
+    let command = Command::from_bytes(j.command[0], j.command[1]);
+    let [kept1, kept2] = j.transfer.command;
+    let open = j.transfer.open();
+    let (writes, reads) = (j.accepts == model::WRITES, j.accepts == model::READS);
+    let size = command.map_or(0, Command::size);
+    let sized = writes && command.is_some() && j.count == size;
+    let allowed = sized && command.is_some_and(|c| c.allows(&j.joined[..size]));
+    [
+        j.codes != 0,
+        !matches!(j.accepts, 1..=3),
+        j.wrong != model::NO_BYTE,
+        !matches!(j.mode, 0 | 1 | 2 | 4),
+        j.transfer.held > model::HOLD,
+        open && Command::from_bytes(kept1, kept2).is_none(),
+        command.is_none(),
+        j.count > model::HOLD,
+        open && j.count < j.transfer.held,
+        open && j.command != j.transfer.command,
+        reads && open,
+        reads && !open && j.count > 0,
+        reads && command == Some(Command::Colour),
+        writes && command.is_some() && j.count != size,
+        sized && !allowed,
+        allowed && command == Some(Command::Run) && j.joined[0] == 1 && j.mode != 4,
+    ]
+}
+
+/// Notes the one of several that holds where no other does.
+fn note_alone(counts: &mut [u64], hold: &[bool]) {
+    if let [only] = hold.iter().enumerate().filter(|(_, &h)| h).collect::<Vec<_>>()[..] {
+        counts[only.0] += 1;
+    }
 }
 
 /// What shipping bytes may have that refusal 18 is about.
@@ -135,9 +243,34 @@ struct Stream {
     reset: bool,
 }
 
+/// A packet that is judged on a controller, over what stood in the judgement. Where that is not refused the
+/// judgement is carried out on the same controller and on the other one.
+#[derive(Clone, PartialEq)]
+struct Question {
+    start: Controller,
+    wide: Wide,
+    packet: Vec<u8>,
+    stood: Judgement,
+    other: Option<(Controller, Wide)>,
+    out: usize,
+    canary: u8,
+}
+
+/// A judgement that is carried out on a controller.
+#[derive(Clone, PartialEq)]
+struct Errand {
+    start: Controller,
+    wide: Wide,
+    judgement: Judgement,
+    out: usize,
+    canary: u8,
+}
+
 #[derive(Clone)]
 enum Case {
     Stream(Box<Stream>),
+    Judge(Box<Question>),
+    Carry(Box<Errand>),
     Encode {
         cmd: [u8; 2],
         settings: Settings,
@@ -173,6 +306,28 @@ fn lent(settings: &Settings, wide: &Wide) -> (Settings, Box<ffi::Settings>) {
     let mut theirs = ffi::Settings::from(&ours);
     wide.put(&mut theirs);
     (ours, Box::new(theirs))
+}
+
+/// A controller as the model has it, and for the library as it is lent.
+fn lent_controller(start: &Controller, wide: &Wide) -> (Controller, Box<ffi::Controller>) {
+    let mut ours = *start;
+    wide.tell(&mut ours.state.settings);
+    let mut theirs = Box::new(ffi::Controller::from(&ours));
+    wide.put(&mut theirs.settings);
+    (ours, theirs)
+}
+
+/// In what the library's judgement is not the model's.
+fn unlike_judgement(library: &ffi::Judgement, model: &Judgement) -> Option<String> {
+    let wanted = ffi::Judgement::from(model);
+    if library.ruling != wanted.ruling {
+        return Some(format!("{:?}, model {:?}", library.ruling, wanted.ruling));
+    }
+    let at = (0..model::HOLD).find(|&i| library.joined[i] != wanted.joined[i])?;
+    Some(format!(
+        "joined[{at}] {:02X}, model {:02X}",
+        library.joined[at], wanted.joined[at]
+    ))
 }
 
 /// The first field in which the library's controller is not the model's.
@@ -306,6 +461,12 @@ impl Harness {
     fn run(&mut self, case: &Case) -> Result<(), String> {
         match case {
             Case::Stream(stream) => self.run_stream(stream),
+            Case::Judge(question) => self.run_question(question),
+            Case::Carry(errand) => {
+                let answer = self.carry_out(errand)?;
+                self.tally.asked.carried(errand, &answer, 2);
+                Ok(())
+            }
             Case::Encode {
                 cmd,
                 settings,
@@ -433,6 +594,115 @@ impl Harness {
         Ok(())
     }
 
+    fn run_question(&mut self, q: &Question) -> Result<(), String> {
+        let (mut ours, mut theirs) = lent_controller(&q.start, &q.wide);
+        let lent: Box<[u8]> = if self.exact {
+            q.packet[..].into()
+        } else {
+            Box::default()
+        };
+        let packet = if self.exact { &lent } else { &q.packet[..] };
+        let stood = ffi::Judgement::from(&q.stood);
+        let (refusal, got) = self.fill(stood, |j| ffi::judge(&mut theirs, packet, j))?;
+        let mut judgement = q.stood;
+        let wanted = match ours.judge(&q.packet, &mut judgement) {
+            Ok(()) => 0,
+            Err(refusal) => refusal as u32,
+        };
+        if refusal != wanted {
+            return Err(format!("judging: answer {refusal}, model {wanted}"));
+        }
+        if let Some(what) = unlike_judgement(&got, &judgement) {
+            return Err(format!("judging, answer {refusal}: {what}"));
+        }
+        if let Some(what) = unlike(&theirs, &ours, &q.wide) {
+            return Err(format!("judging, answer {refusal}: {what}"));
+        }
+        let asked = &mut self.tally.asked;
+        asked.judged[refusal as usize] += 1;
+        if refusal != 0 {
+            return Ok(());
+        }
+        asked.asks[judgement.accepts as usize % 4] += 1;
+        let joins = matches!(q.packet[3], 2 | 3) && judgement.transfer.open();
+        asked.joined[judgement.accepts as usize % 4] += joins as u64;
+        for code in 0..16 {
+            asked.codes[code] += (judgement.codes >> code & 1) as u64;
+        }
+        self.as_received(q, &judgement)?;
+        let same = Some((q.start, q.wide));
+        for (which, on) in [same, q.other].into_iter().enumerate() {
+            let Some((start, wide)) = on else { continue };
+            let errand = Errand {
+                start,
+                wide,
+                judgement,
+                out: q.out,
+                canary: q.canary,
+            };
+            let answer = self
+                .carry_out(&errand)
+                .map_err(|what| format!("{}{what}", ["", "on the other: "][which]))?;
+            self.tally.asked.carried(&errand, &answer, which);
+        }
+        Ok(())
+    }
+
+    /// In the model judging and carrying out are a receive call at a packet boundary, but for the packet that
+    /// is half received. The library's receive call is held to the model's by the streams.
+    fn as_received(&self, q: &Question, judgement: &Judgement) -> Result<(), String> {
+        // A planted fault is for the library to find.
+        if !model::planted(0) {
+            return Ok(());
+        }
+        let mut received = q.start;
+        received.received = 0;
+        let mut carried = q.start;
+        let mut outs = [[q.canary; 64]; 2];
+        let answer = received.receive(&q.packet, &mut outs[0]);
+        let length = carried.carry_out(judgement, &mut outs[1]);
+        let wanted = length.map(|length| Progress::Answered {
+            taken: q.packet.len(),
+            length,
+            wrong: (judgement.wrong != model::NO_BYTE).then_some(judgement.wrong as usize),
+        });
+        let half = |c: &Controller| (c.header, c.sum, c.received, c.hold);
+        let same = answer == wanted && outs[0] == outs[1] && received.state == carried.state;
+        if !same || half(&carried) != half(&q.start) {
+            let [one, two] = outs.map(|out| hex(&out));
+            return Err(format!(
+                "the model receives {answer:?} {one}, and carries out {wanted:?} {two}"
+            ));
+        }
+        Ok(())
+    }
+
+    fn carry_out(&self, e: &Errand) -> Result<Emitted, String> {
+        let (mut ours, mut theirs) = lent_controller(&e.start, &e.wide);
+        let mut judgement = Box::new(ffi::Judgement::from(&e.judgement));
+        let (answer, _) = self
+            .lend(
+                e.out,
+                e.canary,
+                |b| self.emit(|size| ffi::carry_out(&mut theirs, &mut judgement, b, size)),
+                |b| {
+                    let mut answer = Emitted::from(ours.carry_out(&e.judgement, b));
+                    if answer.refusal != 0 && model::planted(111) {
+                        answer.size = ffi::UNSET;
+                    }
+                    answer
+                },
+            )
+            .map_err(|what| format!("carrying out: {what}"))?;
+        if let Some(what) = unlike_judgement(&judgement, &e.judgement) {
+            return Err(format!("the judgement was written: {what}"));
+        }
+        if let Some(what) = unlike(&theirs, &ours, &e.wide) {
+            return Err(format!("carrying out, answer {answer:?}: {what}"));
+        }
+        Ok(answer)
+    }
+
     fn note(&mut self, cut: usize, answer: &Receipt, out: &[u8]) {
         let tally = &mut self.tally;
         tally.calls += 1;
@@ -455,6 +725,27 @@ impl Harness {
             }
             3 => tally.written += 1,
             _ => tally.read += 1,
+        }
+    }
+}
+
+impl Asked {
+    /// Notes what carrying out answered: on the same controller, on another, or of a forged judgement.
+    fn carried(&mut self, e: &Errand, answer: &Emitted, which: usize) {
+        let j = &e.judgement;
+        let refusal = answer.refusal as usize;
+        self.carried[refusal] += 1;
+        match refusal {
+            0 => {
+                let codes = j.codes & model::CODES;
+                let done = if codes != 0 { 0 } else { j.accepts as usize % 4 };
+                self.done[which][done] += 1;
+                self.half += (e.start.received > 0) as u64;
+                self.odd_codes += (codes & 0b1_0110_0010 != 0) as u64;
+            }
+            2 => note_alone(&mut self.forged, &forgeries(j)),
+            4 => note_alone(&mut self.stale, &differing(&e.start, j)),
+            _ => {}
         }
     }
 }
@@ -552,6 +843,55 @@ fn stream_case(rng: &mut Rng) -> Stream {
         canary: rng.byte(),
         reset: rng.one_in(4),
     }
+}
+
+fn a_controller(rng: &mut Rng) -> (Controller, Wide) {
+    match rng.below(12) {
+        0 => (Controller::default(), Wide::default()),
+        1 | 2 => generate::damaged_controller(rng),
+        _ => (generate::controller_in_rule(rng), Wide::default()),
+    }
+}
+
+/// An output for a response.
+fn an_output(rng: &mut Rng) -> usize {
+    match rng.below(16) {
+        0 => rng.below(131),
+        1 => 63,
+        _ => 64 + rng.below(3),
+    }
+}
+
+fn question(rng: &mut Rng) -> Case {
+    let (start, wide) = a_controller(rng);
+    let packet = generate::asked(rng, &start);
+    let like = generate::like(rng);
+    Case::Judge(Box::new(Question {
+        start,
+        wide,
+        packet,
+        stood: generate::any_judgement(rng),
+        other: Some(generate::alike(rng, &start, like)),
+        out: an_output(rng),
+        canary: rng.byte(),
+    }))
+}
+
+/// A judgement for a controller, carried out there or on another.
+fn errand(rng: &mut Rng) -> Case {
+    let (mut start, mut wide) = a_controller(rng);
+    let judgement = generate::forged(rng, &start);
+    if rng.one_in(4) {
+        let like = generate::like(rng);
+        (start, wide) = generate::alike(rng, &start, like);
+    }
+    Case::Carry(Box::new(Errand {
+        start,
+        wide,
+        judgement,
+        out: an_output(rng),
+        canary: rng.byte(),
+    }))
 }
 
 fn emit_case(rng: &mut Rng) -> Case {
@@ -791,6 +1131,170 @@ fn swept() -> impl Iterator<Item = Case> {
         .chain(counts)
         .chain(held)
         .chain(wides)
+        .chain(swept_judgements())
+}
+
+/// The head on which judgements are swept: mode 4, three bytes of 01 04 held, and a packet half received.
+fn half_way() -> Controller {
+    let mut c = Controller::default();
+    c.state.settings.set(Command::Mode, &[4]);
+    c.state.transfer = Transfer {
+        mark: 1,
+        command: [1, 4],
+        held: 3,
+    };
+    c.state.buffer[..4].copy_from_slice(&[0, 4, 1, 9]);
+    c.header = [2, 1, 3, 0, 1, 0];
+    (c.received, c.sum, c.hold[0]) = (7, 10, 3);
+    c
+}
+
+/// Every number of each field of a judgement, in judgements that would be carried out without; every value
+/// that a command may have or not, forged as a write; every output length; and every length of what is judged.
+fn swept_judgements() -> impl Iterator<Item = Case> {
+    let stood = generate::any_judgement(&mut Rng::new(5, 5));
+    let drawn = move |start: &Controller, kind, cmd, flags, data: &[u8]| {
+        let mut j = stood;
+        let packet = generate::packet(kind, cmd, flags, data);
+        let _ = { *start }.judge(&packet, &mut j);
+        (*start, j)
+    };
+    let errand = |start: &Controller, judgement: Judgement, out: usize| {
+        Case::Carry(Box::new(Errand {
+            start: *start,
+            wide: Wide::default(),
+            judgement,
+            out,
+            canary: 0x3C,
+        }))
+    };
+    let question = move |start: &Controller, packet: Vec<u8>| {
+        Case::Judge(Box::new(Question {
+            start: *start,
+            wide: Wide::default(),
+            packet,
+            stood,
+            other: None,
+            out: 64,
+            canary: 0x3C,
+        }))
+    };
+    let fresh = Controller::default();
+    let open = half_way();
+    let bases = vec![
+        drawn(&fresh, 2, [1, 3], 0, &[5]),
+        drawn(&fresh, 4, [1, 3], 0, &[]),
+        drawn(&fresh, 2, [1, 3], 1, &[5]),
+        drawn(&fresh, 2, [1, 3], 0, &[14]),
+        drawn(&open, 2, [1, 4], 2, &[4]),
+        drawn(&open, 2, [1, 4], 3, &[1, 0, 4]),
+        drawn(&open, 2, [1, 4], 3, &[]),
+        drawn(&open, 4, [1, 4], 0, &[]),
+    ];
+    let outs = bases.clone();
+    let lengths = (0..=130).flat_map(move |out| {
+        outs.clone().into_iter().map(move |(start, j)| errand(&start, j, out))
+    });
+    let numbers = (0..=0xFFFF).flat_map(move |n: u16| {
+        let [low, high] = n.to_le_bytes();
+        // Numbers about a limit in every judgement, and each of the others in one.
+        let everywhere = n < 1100 || n > 0xFF00 || low == 0 || low == 1 || low == 255;
+        let place = n as usize % bases.len();
+        let some = if everywhere { &bases[..] } else { &bases[place..=place] };
+        let of_bases = some.to_vec().into_iter().flat_map(move |(start, base)| {
+            let with = |change: &dyn Fn(&mut Judgement)| {
+                let mut j = base;
+                change(&mut j);
+                j
+            };
+            let mut all = vec![
+                with(&|j| j.codes = n),
+                with(&|j| j.accepts = n),
+                with(&|j| j.wrong = n),
+                with(&|j| j.count = n as usize),
+                with(&|j| j.command = [high, low]),
+                with(&|j| j.transfer.command = [high, low]),
+                with(&|j| j.transfer.held = n as usize),
+            ];
+            if high == 0 {
+                all.push(with(&|j| j.mode = low));
+                all.push(with(&|j| j.transfer.mark = low));
+                all.extend((0..8).map(|at| with(&|j| j.joined[at] = low)));
+            }
+            all.into_iter().map(move |j| errand(&start, j, 64))
+        });
+        of_bases
+    });
+    // Whole, as the rest of a transfer, and in a mode in which nothing runs and in mode 4.
+    let values = generate::every_value()
+        .into_iter()
+        .chain(generate::every_fault().into_iter().map(|(c, data, _)| (c, data)))
+        .flat_map(move |(command, data)| {
+            let cmd = command.bytes();
+            let starts = [fresh, open].into_iter().flat_map(|mut start| {
+                start.state.transfer = Transfer::NONE;
+                let whole = start;
+                start.state.transfer = Transfer {
+                    mark: 1,
+                    command: cmd,
+                    held: data.len() / 2,
+                };
+                start.state.buffer[..data.len() / 2].copy_from_slice(&data[..data.len() / 2]);
+                [whole, start]
+            });
+            let of_starts: Vec<Case> = starts
+                .flat_map(|start| {
+                    let transfer = start.state.transfer;
+                    let mut j = stood;
+                    j.mode = start.state.settings.get(Command::Mode)[0];
+                    j.transfer = transfer;
+                    j.command = cmd;
+                    (j.codes, j.wrong, j.accepts) = (0, model::NO_BYTE, model::WRITES);
+                    j.count = data.len();
+                    j.joined[..data.len()].copy_from_slice(&data);
+                    let (flags, rest) = if transfer.open() {
+                        (3, &data[transfer.held..])
+                    } else {
+                        (0, &data[..])
+                    };
+                    let packet = generate::packet(2, cmd, flags, rest);
+                    [errand(&start, j, 64), question(&start, packet)]
+                })
+                .collect();
+            of_starts
+        });
+    // Bytes that are one packet or not: every length about that of the field, and of headers alone.
+    let lengths_judged = [0u16, 1, 6, 255, 256, 1024, 1025, 65_535].into_iter();
+    let cut = lengths_judged.flat_map(move |length| {
+        let whole = generate::packet(2, [1, 4], 0, &vec![1; length as usize]);
+        let due = whole.len();
+        (0..10.min(due)).chain(due - 2..due + 3).flat_map(move |n| {
+            let mut bytes = whole.clone();
+            bytes.resize(n, 0);
+            [fresh, open].map(|start| question(&start, bytes.clone()))
+        })
+    });
+    // Every command, type and flags, with no transfer open and with one.
+    let commands = (0..=0xFFFF).flat_map(move |n: u16| {
+        let cmd = n.to_be_bytes();
+        [(fresh, 0), (fresh, 1), (open, 2)]
+            .into_iter()
+            .flat_map(move |(start, flags)| {
+                [2, 4].map(|kind| question(&start, generate::packet(kind, cmd, flags, &[])))
+            })
+    });
+    let kinds = (0..=0xFFFF).flat_map(move |n: u16| {
+        let [kind, flags] = n.to_be_bytes();
+        [fresh, open].map(|start| {
+            question(&start, generate::packet(kind, [1, 4], flags, &[1, 0, 4]))
+        })
+    });
+    lengths
+        .chain(numbers)
+        .chain(values)
+        .chain(cut)
+        .chain(commands)
+        .chain(kinds)
 }
 
 // ---------------------------------------------------------------------------------------------
@@ -862,6 +1366,90 @@ fn smaller_stream(s: &Stream) -> Vec<Case> {
     cases
 }
 
+/// What is changed of a controller to make a case smaller: parts of it as they are in a fresh one.
+fn smaller_controllers(c: &Controller) -> Vec<Controller> {
+    let fresh = Controller::default();
+    let with = |change: &dyn Fn(&mut Controller)| {
+        let mut next = *c;
+        change(&mut next);
+        next
+    };
+    let mut all = vec![
+        fresh,
+        with(&|n| n.state.settings = fresh.state.settings),
+        with(&|n| n.state.transfer = fresh.state.transfer),
+        with(&|n| n.state.transfer.held = 0),
+        with(&|n| (n.header, n.sum, n.received) = (fresh.header, 0, 0)),
+        with(&|n| n.state.buffer = fresh.state.buffer),
+        with(&|n| n.hold = fresh.hold),
+    ];
+    all.extend((0..48).map(|i| with(&|n| n.state.settings.0[i] = fresh.state.settings.0[i])));
+    all.retain(|next| next != c);
+    all
+}
+
+fn smaller_question(q: &Question) -> Vec<Case> {
+    let mut cases = Vec::new();
+    let mut push = |change: &dyn Fn(&mut Question)| {
+        let mut next = q.clone();
+        change(&mut next);
+        if next != *q {
+            cases.push(Case::Judge(Box::new(next)));
+        }
+    };
+    push(&|n| n.other = None);
+    push(&|n| n.wide = Wide::default());
+    push(&|n| n.stood.joined = [0; model::HOLD]);
+    push(&|n| n.out = 64);
+    for start in smaller_controllers(&q.start) {
+        push(&|n| n.start = start);
+        // The other keeps what it has in common with the first.
+        push(&|n| {
+            if let Some((other, _)) = &mut n.other {
+                n.start = start;
+                other.state.transfer = start.state.transfer;
+                other.state.buffer = start.state.buffer;
+            }
+        });
+    }
+    if let Some((other, wide)) = q.other {
+        push(&|n| n.other = Some((other, Wide::default())));
+        for other in smaller_controllers(&other) {
+            push(&|n| n.other = Some((other, wide)));
+        }
+    }
+    for bytes in stretches(&q.packet).take(3000) {
+        push(&|n| n.packet = bytes.clone());
+    }
+    cases
+}
+
+fn smaller_errand(e: &Errand) -> Vec<Case> {
+    let mut cases = Vec::new();
+    let mut push = |change: &dyn Fn(&mut Errand)| {
+        let mut next = e.clone();
+        change(&mut next);
+        if next != *e {
+            cases.push(Case::Carry(Box::new(next)));
+        }
+    };
+    push(&|n| n.wide = Wide::default());
+    push(&|n| n.out = 64);
+    for start in smaller_controllers(&e.start) {
+        push(&|n| n.start = start);
+    }
+    push(&|n| n.judgement.joined = [0; model::HOLD]);
+    push(&|n| (n.judgement.transfer, n.start.state.transfer) = (Transfer::NONE, Transfer::NONE));
+    push(&|n| n.judgement.transfer = Transfer::NONE);
+    push(&|n| n.judgement.codes = 0);
+    push(&|n| n.judgement.wrong = model::NO_BYTE);
+    push(&|n| n.judgement.mode = n.start.state.settings.get(Command::Mode)[0]);
+    for at in (0..model::HOLD).filter(|&at| e.judgement.joined[at] != 0) {
+        push(&|n| n.judgement.joined[at] = 0);
+    }
+    cases
+}
+
 fn smaller_report(bytes: &[u8]) -> Vec<Case> {
     let mut cases = Vec::new();
     if let Some(report) = Report::parse(bytes) {
@@ -922,6 +1510,8 @@ fn smaller_settings(
 fn smaller(case: &Case) -> Vec<Case> {
     match case {
         Case::Stream(stream) => smaller_stream(stream),
+        Case::Judge(question) => smaller_question(question),
+        Case::Carry(errand) => smaller_errand(errand),
         Case::Report(bytes) => smaller_report(bytes),
         Case::Encode {
             cmd,
@@ -969,6 +1559,39 @@ fn shrink(harness: &mut Harness, case: Case) -> Case {
     }
 }
 
+fn used(array: &[u8]) -> &[u8] {
+    &array[..array.iter().rposition(|&b| b != 0).map_or(0, |n| n + 1)]
+}
+
+fn show_controller(name: &str, c: &Controller) {
+    if *c == Controller::default() {
+        println!("  {name}: fresh");
+        return;
+    }
+    let t = &c.state.transfer;
+    println!("  {name}: settings {}", hex(&c.state.settings.0));
+    println!(
+        "    transfer mark {} command {} held {}",
+        t.mark,
+        hex(&t.command),
+        t.held
+    );
+    println!(
+        "    header {} sum {:02X} received {}",
+        hex(&c.header),
+        c.sum,
+        c.received
+    );
+    for (name, array) in [("buffer", &c.state.buffer), ("hold", &c.hold)] {
+        println!("    {name} {} then zeros", hex(used(array)));
+    }
+}
+
+fn show_judgement(name: &str, j: &Judgement) {
+    println!("  {name}: {:?}", ffi::Judgement::from(j).ruling);
+    println!("    joined {} then zeros", hex(used(&j.joined)));
+}
+
 fn show(case: &Case) {
     let show_wide = |wide: &Wide| {
         if wide.any() {
@@ -978,28 +1601,7 @@ fn show(case: &Case) {
     match case {
         Case::Stream(s) => {
             show_wide(&s.wide);
-            if s.start == Controller::default() {
-                println!("  controller: fresh");
-            } else {
-                let t = &s.start.state.transfer;
-                println!("  controller: settings {}", hex(&s.start.state.settings.0));
-                println!(
-                    "    transfer mark {} command {} held {}",
-                    t.mark,
-                    hex(&t.command),
-                    t.held
-                );
-                println!(
-                    "    header {} sum {:02X} received {}",
-                    hex(&s.start.header),
-                    s.start.sum,
-                    s.start.received
-                );
-                for (name, array) in [("buffer", &s.start.state.buffer), ("hold", &s.start.hold)] {
-                    let used = array.iter().rposition(|&b| b != 0).map_or(0, |n| n + 1);
-                    println!("    {name} {} then zeros", hex(&array[..used]));
-                }
-            }
+            show_controller("controller", &s.start);
             for part in &s.parts {
                 println!("  input: {}", hex(part));
             }
@@ -1007,6 +1609,23 @@ fn show(case: &Case) {
                 println!("  given {:?} bytes at a time", s.cuts);
             }
             println!("  output lengths: {:?}, reset: {}", s.outs, s.reset);
+        }
+        Case::Judge(q) => {
+            show_wide(&q.wide);
+            show_controller("controller", &q.start);
+            if let Some((other, wide)) = &q.other {
+                show_wide(wide);
+                show_controller("the other", other);
+            }
+            show_judgement("what stood there", &q.stood);
+            println!("  packet: {}", hex(&q.packet));
+            println!("  output length: {}", q.out);
+        }
+        Case::Carry(e) => {
+            show_wide(&e.wide);
+            show_controller("controller", &e.start);
+            show_judgement("judgement", &e.judgement);
+            println!("  output length: {}", e.out);
         }
         Case::Encode {
             cmd,
@@ -1132,6 +1751,120 @@ fn stored_case(kind: u8, case: &[u8]) -> Option<Vec<Case>> {
     })
 }
 
+/// What is read of a stored case, from its beginning on.
+struct Reader<'a>(&'a [u8]);
+
+impl<'a> Reader<'a> {
+    fn take(&mut self, n: usize) -> Option<&'a [u8]> {
+        let (taken, rest) = self.0.split_at_checked(n)?;
+        self.0 = rest;
+        Some(taken)
+    }
+
+    fn number(&mut self, bytes: usize) -> Option<usize> {
+        let bytes = self.take(bytes)?.iter().rev();
+        Some(bytes.fold(0, |number, &b| number << 8 | b as usize))
+    }
+
+    /// Of that many bytes as many as an array has room for.
+    fn array(&mut self, count: usize) -> Option<[u8; model::HOLD]> {
+        let mut array = [0; model::HOLD];
+        let bytes = self.take(count.min(model::HOLD))?;
+        array[..bytes.len()].copy_from_slice(bytes);
+        Some(array)
+    }
+
+    /// A controller at a packet boundary.
+    fn controller(&mut self) -> Option<(Controller, Wide)> {
+        let (settings, wide) = stored_settings(self.take(4 * FIELDS.len())?)?;
+        let mut c = Controller::default();
+        c.state.settings = settings;
+        c.state.transfer.mark = self.number(1)? as u8;
+        c.state.transfer.command = self.take(2)?.try_into().ok()?;
+        c.state.transfer.held = self.number(2)?;
+        c.state.buffer = self.array(c.state.transfer.held)?;
+        Some((c, wide))
+    }
+
+    fn judgement(&mut self) -> Option<Judgement> {
+        let mut next = || self.number(2);
+        let (codes, accepts, wrong, count) = (next()?, next()?, next()?, next()?);
+        let command = self.take(2)?.try_into().ok()?;
+        let held = self.number(2)?;
+        Some(Judgement {
+            command,
+            codes: codes as u16,
+            accepts: accepts as u16,
+            wrong: wrong as u16,
+            count,
+            mode: self.number(1)? as u8,
+            transfer: Transfer {
+                held,
+                mark: self.number(1)? as u8,
+                command: self.take(2)?.try_into().ok()?,
+            },
+            joined: self.array(count)?,
+        })
+    }
+}
+
+/// A case of request 5, and whether the model answers as is stored with it.
+fn stored_question(kind: u8, case: &[u8]) -> Option<(Case, bool)> {
+    let mut rest = Reader(case);
+    let (start, wide) = rest.controller()?;
+    let (canary, out) = (0x3C, 64);
+    let mut ours = start;
+    wide.tell(&mut ours.state.settings);
+    if kind == b'j' {
+        let length = rest.number(4)?;
+        let packet = rest.take(length)?.to_vec();
+        let refusal = rest.number(1)?;
+        // The array of a stored judgement has zeros behind what counts.
+        let mut stood = generate::any_judgement(&mut Rng::new(0, 0));
+        stood.joined = [0; model::HOLD];
+        let wanted = if refusal == 0 { rest.judgement()? } else { stood };
+        let mut judgement = stood;
+        let answer = ours.judge(&packet, &mut judgement).err();
+        let right = answer.map_or(0, |r| r as usize) == refusal && judgement == wanted;
+        let question = Question {
+            start,
+            wide,
+            packet,
+            stood,
+            other: None,
+            out,
+            canary,
+        };
+        return rest.0.is_empty().then_some((Case::Judge(Box::new(question)), right));
+    }
+    let judgement = rest.judgement()?;
+    let out = LONGEST.min(rest.number(2)?);
+    let refusal = rest.number(1)?;
+    let mut given = vec![canary; out];
+    let answer = ours.carry_out(&judgement, &mut given);
+    let right = if refusal == 0 {
+        let length = rest.number(1)?;
+        let response = rest.take(length)?;
+        let (after, _) = rest.controller()?;
+        let held = |c: &Controller| c.state.buffer[..c.state.transfer.held].to_vec();
+        answer == Ok(length)
+            && given[..length] == *response
+            && ours.state.settings == after.state.settings
+            && ours.state.transfer == after.state.transfer
+            && held(&ours) == held(&after)
+    } else {
+        answer.err().map(|r| r as usize) == Some(refusal)
+    };
+    let errand = Errand {
+        start,
+        wide,
+        judgement,
+        out,
+        canary,
+    };
+    rest.0.is_empty().then_some((Case::Carry(Box::new(errand)), right))
+}
+
 /// The stored cases of a file.
 fn stored(file: &str) -> Result<Vec<Case>, String> {
     let bytes = std::fs::read(file).map_err(|why| format!("{file}: {why}"))?;
@@ -1141,6 +1874,17 @@ fn stored(file: &str) -> Result<Vec<Case>, String> {
         let length = u32::from_le_bytes([l0, l1, l2, l3]) as usize;
         let case = after.get(..length).ok_or(format!("{file}: cut short"))?;
         rest = &after[length..];
+        if matches!(kind, b'j' | b'c') {
+            let asked = stored_question(kind, case);
+            let (asked, right) = asked.ok_or(format!("{file}: a case of another length"))?;
+            if !right {
+                println!("DIFFERENT: the model has another answer than is stored");
+                show(&asked);
+                return Err(format!("{file}: case {}", cases.len() + 1));
+            }
+            cases.push(asked);
+            continue;
+        }
         let tried = stored_case(kind, case);
         cases.extend(tried.ok_or(format!("{file}: a case of no known kind or another length"))?);
     }
@@ -1232,8 +1976,38 @@ fn missing(t: &Tally) -> Vec<String> {
     for (seen, offence) in t.offences.into_iter().zip(OFFENCES) {
         need(format!("refusal 18 of {offence}"), seen);
     }
+    let a = &t.asked;
+    for refusal in [0, 3, 5] {
+        need(format!("answer {refusal} of judging"), a.judged[refusal]);
+    }
+    for code in [2, 3, 4, 7, 9, 0x0A, 0x0B] {
+        need(format!("code {code:02X} of a judgement"), a.codes[code]);
+    }
+    for (k, what) in ASKS.into_iter().enumerate() {
+        need(format!("a judgement that is {what}"), a.asks[k]);
+        if k != model::READS as usize {
+            need(format!("the same in a transfer: {what}"), a.joined[k]);
+        }
+        for (done, of) in a.done.iter().zip(["the same", "another", "any, forged"]) {
+            need(format!("{what} carried out on {of}"), done[k]);
+        }
+    }
+    for (refusal, seen) in a.carried.into_iter().enumerate().take(5) {
+        need(format!("answer {refusal} of carrying out"), seen);
+    }
+    need("carrying out with a packet half received".into(), a.half);
+    need("codes that no packet draws".into(), a.odd_codes);
+    for (seen, item) in a.stale.into_iter().zip(STALE) {
+        need(format!("refusal 4 for {item} alone"), seen);
+    }
+    for (seen, what) in a.forged.into_iter().zip(FORGED) {
+        need(format!("refusal 2 for {what} alone"), seen);
+    }
     none
 }
+
+/// What a judgement is, by the number of what it asks.
+const ASKS: [&str; 4] = ["an error", "a hold", "a write", "a read"];
 
 fn summary(t: &Tally) {
     println!(
@@ -1286,6 +2060,24 @@ fn summary(t: &Tally) {
         named(1),
         t.values.several.iter().sum::<u64>(),
         beside.join(", ")
+    );
+    let a = &t.asked;
+    println!(
+        "judged: {}, of these errors: {}, holds: {}, writes: {}, reads: {}; refusal 3: {}, 5: {}",
+        a.judged[0], a.asks[0], a.asks[1], a.asks[2], a.asks[3], a.judged[3], a.judged[5]
+    );
+    let done = |which: usize| a.done[which].iter().sum::<u64>();
+    println!(
+        "carried out: {} on the same controller, {} on another, {} forged or damaged, {} with a packet half \
+         received; refusal 1: {}, 2: {}, 3: {}, 4: {}",
+        done(0),
+        done(1),
+        done(2),
+        a.half,
+        a.carried[1],
+        a.carried[2],
+        a.carried[3],
+        a.carried[4]
     );
     let refusals: Vec<String> = (10..21)
         .map(|refusal| format!("{refusal}: {}", t.verdicts[refusal]))
@@ -1387,6 +2179,12 @@ fn main() {
                 _ => {}
             }
             harness.hold(emit, "emit", seed);
+            // Numbers of their own: the packets and reports of a seed are what they were before request 5.
+            let mut rng = Rng::new(!seed, number);
+            for _ in 0..3 {
+                harness.hold(question(&mut rng), "judging", seed);
+                harness.hold(errand(&mut rng), "carrying out", seed);
+            }
         }
         if harness.tally.reports < count / 10 {
             harness.hold(Case::Report(generate::report(&mut rng)), "report", seed);

@@ -1,5 +1,5 @@
-//! Document 01 once more, and the requests up to 4, in plain Rust: the receiver, the nine commands, the
-//! encoder, the standard list and the report checker. It was written from the papers and shares nothing
+//! Document 01 once more, and the requests up to 5, in plain Rust: the receiver, the nine commands, judging
+//! a packet and carrying out the judgement, the encoder, the standard list and the report checker. It was written from the papers and shares nothing
 //! with the crates.
 //! The differential test holds the library to it, and the benchmark measures the library against it.
 
@@ -36,6 +36,7 @@ const LAST: u8 = 3;
 #[cfg(plants)]
 pub static PLANT: std::sync::atomic::AtomicUsize = std::sync::atomic::AtomicUsize::new(0);
 
+/// Fault 0 is none.
 #[cfg(plants)]
 #[inline]
 pub fn planted(fault: usize) -> bool {
@@ -49,7 +50,7 @@ pub const fn planted(_fault: usize) -> bool {
 }
 
 /// What each planted fault is, from 1.
-pub const PLANTS: [&str; 59] = [
+pub const PLANTS: [&str; 112] = [
     "the last of equal scores is the winner",
     "a transfer stays open after an error packet",
     "error codes descend",
@@ -109,6 +110,59 @@ pub const PLANTS: [&str; 59] = [
     "refusal 18's place is counted without the header of kind 4",
     "a read among the shipping packets is let through",
     "refusal 19 is placed at the first shipping byte",
+    "judging closes the open transfer",
+    "judging drops the half-received packet",
+    "carrying out drops the half-received packet",
+    "carrying out does not compare the mode",
+    "carrying out does not compare the open command",
+    "carrying out does not compare how many bytes are held",
+    "carrying out does not compare the held bytes",
+    "carrying out does not compare whether a transfer is open",
+    "none open is taken for one open with nothing held",
+    "a transfer that is open by another mark is taken for another",
+    "what the memory of no transfer has is compared",
+    "a judgement with error codes is never stale",
+    "a read is never stale",
+    "4 comes before 2",
+    "2 comes before 3",
+    "carrying out tests 3 before 1",
+    "judging tests 5 before 3",
+    "a judgement with codes that no packet draws is refused with 2",
+    "an error without any code is carried out",
+    "a forged write of a value that is not allowed is let through",
+    "a forged write of another size is let through",
+    "a forged hold of 1,025 bytes is let through",
+    "a forged run 1 outside mode 4 is let through",
+    "a forged run 1 is judged by the mode of the controller",
+    "a forged read of 01 06 is let through",
+    "a forged read is let through while a transfer is open",
+    "a forged read with data is let through",
+    "a forged write is let through for another command than the open one",
+    "a forged hold is let through for another command than the open one",
+    "a forged judgement of a command that is not in the table is let through",
+    "a forged judgement that names a wrong byte without a code is let through",
+    "a forged judgement of mode 3 is let through, and is stale",
+    "a forged judgement with fewer joined bytes than were held is let through",
+    "a judgement of over 1,024 bytes in the memory of no transfer is let through",
+    "bytes behind one packet are judged",
+    "a packet whose last byte is missing is judged",
+    "codes 09 and 0A are swapped in a judgement",
+    "codes that no packet draws are not sent",
+    "bits that are no codes are sent",
+    "a read answers the values that it was judged under",
+    "the held bytes are not written to the judgement",
+    "the payload of a packet that draws an error is written to the judgement",
+    "the bytes behind the joined data are set to zero",
+    "a refused judging clears the judgement",
+    "the wrong byte is left out of a judgement",
+    "where no transfer is open a judgement keeps zeros",
+    "a carried-out hold does not store the payload",
+    "a carried-out hold stores the whole array",
+    "a carried-out write leaves the transfer open",
+    "a carried-out error leaves the transfer open",
+    "a carried-out mode other than 4 does not stop the sequence",
+    "a refused carrying out leaves what size held",
+    "a carried-out response repeats the open command",
 ];
 
 // ---------------------------------------------------------------------------------------------
@@ -384,7 +438,7 @@ impl Settings {
 // Judging
 
 /// The codes of an error packet: bit n for code n.
-type Faults = u16;
+pub type Faults = u16;
 
 const INVALID_COMMAND: Faults = 1 << 0x02;
 const INVALID_VALUE: Faults = 1 << 0x03;
@@ -496,22 +550,31 @@ impl State {
         faults
     }
 
-    /// Size, values and mode of a write that is to be carried out; stored when all are right. With code
-    /// 03 comes the wrong byte.
+    /// Size, values and mode of a write that is to be carried out. With code 03 comes the wrong byte.
     #[inline]
-    fn store(&mut self, command: Command, data: &[u8]) -> (Faults, Option<usize>) {
+    fn later_fault(&self, command: Command, data: &[u8]) -> (Faults, Option<usize>) {
         if data.len() != command.size() {
             return (SIZE, planted(40).then_some(0));
         }
         if !command.allows(data) {
-            if planted(9) && command == Current {
-                self.settings.0[2..6].copy_from_slice(&data[..4]);
-            }
             let wrong = command.wrong(data);
             return (INVALID_VALUE, wrong.map(|at| misnamed(command, data, at)));
         }
         if command == Run && data[0] == 1 && self.settings.mode() != 4 {
             return (NOT_INITIALIZED, planted(41).then_some(0));
+        }
+        (0, None)
+    }
+
+    /// A write is stored when all of these are right.
+    #[inline]
+    fn store(&mut self, command: Command, data: &[u8]) -> (Faults, Option<usize>) {
+        let fault = self.later_fault(command, data);
+        if fault.0 != 0 {
+            if planted(9) && fault.0 == INVALID_VALUE && command == Current {
+                self.settings.0[2..6].copy_from_slice(&data[..4]);
+            }
+            return fault;
         }
         self.settings.set(command, data);
         if command == Mode && data[0] != 4 && !planted(8) {
@@ -617,6 +680,8 @@ pub enum Refusal {
     Output = 1,
     Value = 2,
     State = 3,
+    Stale = 4,
+    Packet = 5,
 }
 
 #[derive(Clone, Copy, PartialEq, Eq, Debug)]
@@ -788,6 +853,359 @@ fn error_packet(out: &mut [u8], command: [u8; 2], faults: Faults) -> usize {
         codes[..count].reverse();
     }
     packet(out, ERROR_RESPONSE, command, &codes[..count])
+}
+
+// ---------------------------------------------------------------------------------------------
+// Asking before sending (request 5)
+
+/// What a judgement asks to be done; 0 with an error.
+pub const HOLDS: u16 = 1;
+pub const WRITES: u16 = 2;
+pub const READS: u16 = 3;
+/// The wrong byte of a judgement that names none.
+pub const NO_BYTE: u16 = u16::MAX;
+/// The bits of the codes 01 to 0B.
+pub const CODES: Faults = 0x0FFE;
+
+/// What a packet is answered, before anything is done. Its parts are as wide as those of the lent one, so
+/// that a damaged one can be told.
+#[derive(Clone, Copy, PartialEq, Eq, Debug)]
+pub struct Judgement {
+    /// What it was made under: the mode, and the transfer with what its memory had, open or not.
+    pub mode: u8,
+    pub transfer: Transfer,
+    /// The packet's command.
+    pub command: [u8; 2],
+    pub codes: Faults,
+    pub accepts: u16,
+    pub wrong: u16,
+    /// How many bytes the joined data have: those that were held, and behind them what the packet brings.
+    pub count: usize,
+    pub joined: [u8; HOLD],
+}
+
+/// The settings of the last judging, for the fault that answers a read by them.
+#[cfg(plants)]
+static JUDGED_UNDER: std::sync::Mutex<Settings> = std::sync::Mutex::new(Settings::FACTORY);
+
+impl State {
+    /// What a whole packet is answered, in the place of another judgement, of whose array the bytes behind
+    /// the joined data stay.
+    fn judgement(&self, packet: &[u8], stood: &Judgement) -> Judgement {
+        let (header, rest) = packet.split_first_chunk::<HEADER>().expect("a packet");
+        let (&last, payload) = rest.split_last().expect("a packet");
+        let head = if planted(4) { 0 } else { sum(header) };
+        let right = head.wrapping_add(sum(payload)) == last;
+        let &[kind, cmd1, cmd2, flags, ..] = header;
+        let held = &self.buffer[..self.transfer.held()];
+        let data = [held, payload].concat();
+
+        let mut codes = self.first_group(header, right);
+        let mut wrong = None;
+        let mut accepts = 0;
+        if let (0, Some(command)) = (codes, Command::from_bytes(cmd1, cmd2)) {
+            accepts = match (kind, flags) {
+                (_, BEGINNING | INTERMEDIATE) => HOLDS,
+                (READ, _) => READS,
+                _ => WRITES,
+            };
+            if accepts == READS && !payload.is_empty() {
+                codes = SIZE;
+            }
+            if accepts == WRITES {
+                (codes, wrong) = self.later_fault(command, &data);
+            }
+        }
+        let mut j = Judgement {
+            mode: self.settings.mode(),
+            transfer: self.transfer,
+            command: [cmd1, cmd2],
+            codes,
+            accepts: if codes == 0 { accepts } else { 0 },
+            wrong: wrong.map_or(NO_BYTE, |at| at as u16),
+            count: if codes == 0 { data.len() } else { held.len() },
+            joined: stood.joined,
+        };
+        j.joined[..j.count].copy_from_slice(&data[..j.count]);
+        self.misjudge(&mut j, stood, payload);
+        j
+    }
+
+    /// What the planted faults make of a judgement.
+    #[inline]
+    fn misjudge(&self, j: &mut Judgement, stood: &Judgement, payload: &[u8]) {
+        let held = self.transfer.held();
+        if planted(96) {
+            let (nine, ten) = (j.codes & CHECKSUM, j.codes & SIZE);
+            j.codes = j.codes & !(CHECKSUM | SIZE) | nine << 1 | ten >> 1;
+        }
+        if planted(100) {
+            j.joined[..held].copy_from_slice(&stood.joined[..held]);
+        }
+        if planted(101) && j.codes != 0 {
+            fit(&mut j.joined, held, payload);
+        }
+        if planted(102) {
+            j.joined[j.count..].fill(0);
+        }
+        if planted(104) {
+            j.wrong = NO_BYTE;
+        }
+        if planted(105) && !j.transfer.open() {
+            j.transfer = Transfer::NONE;
+        }
+    }
+}
+
+impl Judgement {
+    /// The error codes that it has. No other bit is one.
+    fn faults(&self) -> Faults {
+        self.codes & CODES
+    }
+
+    /// Whether 2 lets it pass: it has an error code, or a packet draws this very judgement from a controller
+    /// that is in rule and has what it keeps. Such a packet is of the judgement's command and has the right
+    /// checksum, and its payload is what stands behind the held bytes; of its type and flags all are tried
+    /// that may draw no code. Of the settings only the mode has a say in judging.
+    fn drawn(&self) -> bool {
+        if self.faults() != 0 {
+            return true;
+        }
+        let mut state = State {
+            transfer: self.transfer,
+            buffer: self.joined,
+            ..State::default()
+        };
+        state.settings.set(Mode, &[self.mode]);
+        let kept = Controller {
+            state,
+            ..Controller::default()
+        };
+        let Some(payload) = self.joined.get(self.transfer.held()..self.count) else {
+            return false;
+        };
+        let [cmd1, cmd2] = self.command;
+        let [low, high] = (payload.len() as u16).to_le_bytes();
+        let draws = |kind: u8, flags: u8| {
+            let mut packet = [&[kind, cmd1, cmd2, flags, low, high], payload].concat();
+            let from = if planted(4) { HEADER } else { 0 };
+            packet.push(sum(&packet[from..]));
+            state.judgement(&packet, self) == *self
+        };
+        kept.in_rule()
+            && [WRITE, READ].into_iter().any(|kind| {
+                [WHOLE, BEGINNING, INTERMEDIATE, LAST]
+                    .into_iter()
+                    .any(|flags| draws(kind, flags))
+            })
+    }
+
+    /// The same, with what the planted faults let pass; `mode` is that of the controller.
+    fn let_pass(&self, mode: u8) -> bool {
+        let command = Command::from_bytes(self.command[0], self.command[1]);
+        let size = command.map(Command::size);
+        let open = self.transfer.open();
+        let other = open && self.transfer.command != self.command;
+        let run = command == Some(Run) && self.count == 1 && self.joined[0] == 1;
+        let (holds, writes, reads) = match self.accepts {
+            _ if self.codes != 0 => (false, false, false),
+            HOLDS => (true, false, false),
+            WRITES => (false, true, false),
+            READS => (false, false, true),
+            _ => (false, false, false),
+        };
+        let allowed = || command.is_some_and(|c| c.allows(&self.joined[..c.size()]));
+        let fits = self.count <= HOLD && Some(self.count) == size;
+        let mut j = *self;
+        if planted(83) && writes && run {
+            j.mode = mode;
+        }
+        if planted(90) && self.faults() == 0 {
+            j.wrong = NO_BYTE;
+        }
+        if planted(91) && self.mode == 3 {
+            j.mode = 0;
+        }
+        if planted(93) && !open {
+            j.transfer.held = 0;
+        }
+        let together = INVALID_COMMAND | OUT_OF_MEMORY | CHECKSUM | CONTINUATION;
+        if planted(77) && self.faults() & !together != 0 {
+            return matches!(self.faults(), SIZE | INVALID_VALUE | NOT_INITIALIZED);
+        }
+        (planted(78) && self.codes != 0)
+            || (planted(79) && writes && fits && !allowed())
+            || (planted(80) && writes && size.is_some() && self.count <= HOLD && !fits)
+            || (planted(81) && holds && self.count == HOLD + 1)
+            || (planted(82) && writes && run && !open)
+            || (planted(84) && reads && command == Some(Colour) && !open && self.count == 0)
+            || (planted(85) && reads && open && self.count == self.transfer.held)
+            || (planted(86) && reads && !open && self.count > 0)
+            || (planted(87) && writes && other && fits && allowed())
+            || (planted(88) && holds && other)
+            || (planted(89) && holds && command.is_none())
+            || (planted(92) && holds && self.count < self.transfer.held())
+            || j.drawn()
+    }
+}
+
+impl Controller {
+    /// Judges what is exactly one packet; only planted faults change the controller.
+    pub fn judge(&mut self, packet: &[u8], j: &mut Judgement) -> Result<(), Refusal> {
+        let due = |header: &[u8; HEADER]| HEADER + 1 + u16_at(header, 4) as usize;
+        let due = packet.first_chunk().map(due);
+        let mut packet = packet;
+        let sealed;
+        if planted(94) && due.is_some_and(|due| packet.len() > due) {
+            packet = &packet[..due.unwrap_or(0)];
+        }
+        if planted(95) && Some(packet.len() + 1) == due {
+            sealed = [packet, &[sum(packet)]].concat();
+            packet = &sealed;
+        }
+        let one = due == Some(packet.len());
+        if planted(103) && !(one && self.in_rule()) {
+            j.joined.fill(0);
+        }
+        if planted(76) && !one {
+            return Err(Refusal::Packet);
+        }
+        if !self.in_rule() {
+            return Err(Refusal::State);
+        }
+        if !one {
+            return Err(Refusal::Packet);
+        }
+        #[cfg(plants)]
+        if planted(99) {
+            *JUDGED_UNDER.lock().unwrap() = self.state.settings;
+        }
+        *j = self.state.judgement(packet, j);
+        if planted(60) {
+            self.state.transfer = Transfer::NONE;
+        }
+        if planted(61) {
+            self.received = 0;
+        }
+        Ok(())
+    }
+
+    /// Whether a kept item is another here: the mode, whether a transfer is open, and where one is its
+    /// command, how many bytes it holds and which.
+    fn stale(&self, j: &Judgement) -> bool {
+        let (ours, kept) = (&self.state.transfer, &j.transfer);
+        let held = |array: &[u8; HOLD]| array[..ours.held.min(HOLD)].to_vec();
+        let other_command = ours.command != kept.command && !planted(64);
+        let other_count = ours.held != kept.held && !planted(65);
+        let other_bytes = held(&self.state.buffer) != held(&j.joined) && !planted(66);
+        if planted(68) && ours.held() == 0 && kept.held() == 0 && ours.open() != kept.open() {
+            return self.state.settings.mode() != j.mode;
+        }
+        if (planted(71) && j.codes != 0) || (planted(72) && j.codes == 0 && j.accepts == READS) {
+            return false;
+        }
+        let other_transfer = match (ours.open(), kept.open()) {
+            (true, true) => {
+                other_command
+                    || other_count
+                    || other_bytes
+                    || (planted(69) && ours.mark != kept.mark)
+            }
+            (false, false) => planted(70) && ours != kept,
+            _ => !planted(67),
+        };
+        other_transfer || (self.state.settings.mode() != j.mode && !planted(63))
+    }
+
+    /// Carries a judgement out: the response's length.
+    pub fn carry_out(&mut self, j: &Judgement, out: &mut [u8]) -> Result<usize, Refusal> {
+        let drawn = j.let_pass(self.state.settings.mode());
+        if planted(75) && !self.in_rule() {
+            return Err(Refusal::State);
+        }
+        let Some(out) = out.first_chunk_mut::<OUTPUT>() else {
+            return Err(Refusal::Output);
+        };
+        if planted(74) && !drawn {
+            return Err(Refusal::Value);
+        }
+        if !self.in_rule() {
+            return Err(Refusal::State);
+        }
+        if planted(73) && self.stale(j) {
+            return Err(Refusal::Stale);
+        }
+        if !drawn {
+            return Err(Refusal::Value);
+        }
+        if self.stale(j) {
+            return Err(Refusal::Stale);
+        }
+        if planted(62) {
+            self.received = 0;
+        }
+        Ok(self.do_as_judged(j, out))
+    }
+
+    fn do_as_judged(&mut self, j: &Judgement, out: &mut [u8; OUTPUT]) -> usize {
+        let state = &mut self.state;
+        let mut command = j.command;
+        if planted(112) && state.transfer.open() {
+            command = state.transfer.command;
+        }
+        let data = &j.joined[..j.count.min(HOLD)];
+        let which = Command::from_bytes(j.command[0], j.command[1]);
+        if j.codes != 0 {
+            if !planted(109) {
+                state.transfer = Transfer::NONE;
+            }
+            let sent = match () {
+                _ if planted(97) => {
+                    j.codes & !(1 << 1 | 1 << 5 | 1 << 6 | 1 << 8) & CODES
+                }
+                _ if planted(98) => j.codes,
+                _ => j.faults(),
+            };
+            return error_packet(out, command, sent);
+        }
+        match (j.accepts, which) {
+            (HOLDS, _) => {
+                let held = state.transfer.held();
+                if planted(107) {
+                    state.buffer = j.joined;
+                } else if !planted(106) {
+                    fit(&mut state.buffer, held, data.get(held..).unwrap_or(&[]));
+                }
+                state.transfer = Transfer {
+                    mark: 1,
+                    command: j.command,
+                    held: j.count,
+                };
+            }
+            (READS, Some(which)) => {
+                #[allow(unused_mut)]
+                let mut settings = state.settings;
+                #[cfg(plants)]
+                if planted(99) {
+                    settings = *JUDGED_UNDER.lock().unwrap();
+                }
+                return packet(out, READ_RESPONSE, command, settings.get(which));
+            }
+            (_, Some(which)) => {
+                if data.len() == which.size() {
+                    state.settings.set(which, data);
+                }
+                if which == Mode && data != [4] && !planted(110) {
+                    state.settings.set(Run, &[0]);
+                }
+                if !planted(108) {
+                    state.transfer = Transfer::NONE;
+                }
+            }
+            _ => {}
+        }
+        packet(out, WRITE_RESPONSE, command, &[])
+    }
 }
 
 // ---------------------------------------------------------------------------------------------
