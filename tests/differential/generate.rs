@@ -911,7 +911,12 @@ fn part(rng: &mut Rng, c: &Controller) -> Option<Vec<u8>> {
         1 => odd_command(rng),
         _ => [cmd1, cmd2],
     };
-    Some(packet(rng.pick(&[2, 2, 2, 2, 2, 2, 4, 3]), cmd, flags, &data))
+    Some(packet(
+        rng.pick(&[2, 2, 2, 2, 2, 2, 4, 3]),
+        cmd,
+        flags,
+        &data,
+    ))
 }
 
 /// What is asked of this controller: mostly one packet.
@@ -988,7 +993,10 @@ pub fn alike(rng: &mut Rng, from: &Controller, like: Like) -> (Controller, Wide)
     match like {
         Like::Kept | Like::Damaged => {}
         Like::Mode => {
-            let others: Vec<u8> = [0, 1, 2, 4].into_iter().filter(|&m| [m] != mode[..]).collect();
+            let others: Vec<u8> = [0, 1, 2, 4]
+                .into_iter()
+                .filter(|&m| [m] != mode[..])
+                .collect();
             c.state.settings.set(Command::Mode, &[rng.pick(&others)]);
             c.state.settings.set(Command::Run, &[0]);
         }
@@ -1067,7 +1075,11 @@ pub fn any_judgement(rng: &mut Rng) -> Judgement {
 /// A judgement that keeps what this controller has, made up and not drawn.
 fn made_up(rng: &mut Rng, c: &Controller) -> Judgement {
     let transfer = c.state.transfer;
-    let held = if transfer.open() { transfer.held.min(model::HOLD) } else { 0 };
+    let held = if transfer.open() {
+        transfer.held.min(model::HOLD)
+    } else {
+        0
+    };
     let opened = Command::from_bytes(transfer.command[0], transfer.command[1]);
     let which = match opened {
         Some(which) if transfer.open() && !rng.one_in(4) => which,

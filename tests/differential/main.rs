@@ -148,6 +148,7 @@ const FORGED: [&str; 16] = [
 fn forgeries(j: &Judgement) -> [bool; FORGED.len()] {
     let command = Command::from_bytes(j.command[0], j.command[1]);
     let [kept1, kept2] = j.transfer.command;
+    let kept = Command::from_bytes(kept1, kept2);
     let open = j.transfer.open();
     let (writes, reads) = (j.accepts == model::WRITES, j.accepts == model::READS);
     let size = command.map_or(0, Command::size);
@@ -159,11 +160,11 @@ fn forgeries(j: &Judgement) -> [bool; FORGED.len()] {
         j.wrong != model::NO_BYTE,
         !matches!(j.mode, 0 | 1 | 2 | 4),
         j.transfer.held > model::HOLD,
-        open && Command::from_bytes(kept1, kept2).is_none(),
+        open && kept.is_none(),
         command.is_none(),
         j.count > model::HOLD,
         open && j.count < j.transfer.held,
-        open && j.command != j.transfer.command,
+        open && kept.is_some() && j.command != j.transfer.command,
         reads && open,
         reads && !open && j.count > 0,
         reads && command == Some(Command::Colour),
@@ -175,7 +176,12 @@ fn forgeries(j: &Judgement) -> [bool; FORGED.len()] {
 
 /// Notes the one of several that holds where no other does.
 fn note_alone(counts: &mut [u64], hold: &[bool]) {
-    if let [only] = hold.iter().enumerate().filter(|(_, &h)| h).collect::<Vec<_>>()[..] {
+    if let [only] = hold
+        .iter()
+        .enumerate()
+        .filter(|(_, &h)| h)
+        .collect::<Vec<_>>()[..]
+    {
         counts[only.0] += 1;
     }
 }
@@ -738,7 +744,11 @@ impl Asked {
         match refusal {
             0 => {
                 let codes = j.codes & model::CODES;
-                let done = if codes != 0 { 0 } else { j.accepts as usize % 4 };
+                let done = if codes != 0 {
+                    0
+                } else {
+                    j.accepts as usize % 4
+                };
                 self.done[which][done] += 1;
                 self.half += (e.start.received > 0) as u64;
                 self.odd_codes += (codes & 0b1_0110_0010 != 0) as u64;
@@ -1193,14 +1203,20 @@ fn swept_judgements() -> impl Iterator<Item = Case> {
     ];
     let outs = bases.clone();
     let lengths = (0..=130).flat_map(move |out| {
-        outs.clone().into_iter().map(move |(start, j)| errand(&start, j, out))
+        outs.clone()
+            .into_iter()
+            .map(move |(start, j)| errand(&start, j, out))
     });
     let numbers = (0..=0xFFFF).flat_map(move |n: u16| {
         let [low, high] = n.to_le_bytes();
         // Numbers about a limit in every judgement, and each of the others in one.
         let everywhere = n < 1100 || n > 0xFF00 || low == 0 || low == 1 || low == 255;
         let place = n as usize % bases.len();
-        let some = if everywhere { &bases[..] } else { &bases[place..=place] };
+        let some = if everywhere {
+            &bases[..]
+        } else {
+            &bases[place..=place]
+        };
         let of_bases = some.to_vec().into_iter().flat_map(move |(start, base)| {
             let with = |change: &dyn Fn(&mut Judgement)| {
                 let mut j = base;
@@ -1228,7 +1244,11 @@ fn swept_judgements() -> impl Iterator<Item = Case> {
     // Whole, as the rest of a transfer, and in a mode in which nothing runs and in mode 4.
     let values = generate::every_value()
         .into_iter()
-        .chain(generate::every_fault().into_iter().map(|(c, data, _)| (c, data)))
+        .chain(
+            generate::every_fault()
+                .into_iter()
+                .map(|(c, data, _)| (c, data)),
+        )
         .flat_map(move |(command, data)| {
             let cmd = command.bytes();
             let starts = [fresh, open].into_iter().flat_map(|mut start| {
@@ -1285,9 +1305,8 @@ fn swept_judgements() -> impl Iterator<Item = Case> {
     });
     let kinds = (0..=0xFFFF).flat_map(move |n: u16| {
         let [kind, flags] = n.to_be_bytes();
-        [fresh, open].map(|start| {
-            question(&start, generate::packet(kind, [1, 4], flags, &[1, 0, 4]))
-        })
+        [fresh, open]
+            .map(|start| question(&start, generate::packet(kind, [1, 4], flags, &[1, 0, 4])))
     });
     lengths
         .chain(numbers)
@@ -1822,7 +1841,11 @@ fn stored_question(kind: u8, case: &[u8]) -> Option<(Case, bool)> {
         // The array of a stored judgement has zeros behind what counts.
         let mut stood = generate::any_judgement(&mut Rng::new(0, 0));
         stood.joined = [0; model::HOLD];
-        let wanted = if refusal == 0 { rest.judgement()? } else { stood };
+        let wanted = if refusal == 0 {
+            rest.judgement()?
+        } else {
+            stood
+        };
         let mut judgement = stood;
         let answer = ours.judge(&packet, &mut judgement).err();
         let right = answer.map_or(0, |r| r as usize) == refusal && judgement == wanted;
@@ -1835,7 +1858,10 @@ fn stored_question(kind: u8, case: &[u8]) -> Option<(Case, bool)> {
             out,
             canary,
         };
-        return rest.0.is_empty().then_some((Case::Judge(Box::new(question)), right));
+        return rest
+            .0
+            .is_empty()
+            .then_some((Case::Judge(Box::new(question)), right));
     }
     let judgement = rest.judgement()?;
     let out = LONGEST.min(rest.number(2)?);
@@ -1862,7 +1888,9 @@ fn stored_question(kind: u8, case: &[u8]) -> Option<(Case, bool)> {
         out,
         canary,
     };
-    rest.0.is_empty().then_some((Case::Carry(Box::new(errand)), right))
+    rest.0
+        .is_empty()
+        .then_some((Case::Carry(Box::new(errand)), right))
 }
 
 /// The stored cases of a file.

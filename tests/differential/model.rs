@@ -1160,9 +1160,7 @@ impl Controller {
                 state.transfer = Transfer::NONE;
             }
             let sent = match () {
-                _ if planted(97) => {
-                    j.codes & !(1 << 1 | 1 << 5 | 1 << 6 | 1 << 8) & CODES
-                }
+                _ if planted(97) => j.codes & !(1 << 1 | 1 << 5 | 1 << 6 | 1 << 8) & CODES,
                 _ if planted(98) => j.codes,
                 _ => j.faults(),
             };
