@@ -1,6 +1,6 @@
 //! Document 01 once more, and the requests up to 5, in plain Rust: the receiver, the nine commands, judging
-//! a packet and carrying out the judgement, the encoder, the standard list and the report checker. It was written from the papers and shares nothing
-//! with the crates.
+//! a packet and carrying out the judgement, the encoder, the standard list and the report checker. It was
+//! written from the papers and shares nothing with the crates.
 //! The differential test holds the library to it, and the benchmark measures the library against it.
 
 #![allow(dead_code)]

@@ -23,6 +23,8 @@ static struct {
     controller c;
     uint8_t between[64];
     imjarlet_verdict v;
+    uint8_t beside[64];
+    imjarlet_judgement j;
     uint8_t after[64];
 } box;
 
@@ -36,7 +38,7 @@ static uint8_t report[70000];
 
 static int strips_untouched(void) {
     return all(box.before, STRIP, sizeof box.before) && all(box.between, STRIP, sizeof box.between) &&
-           all(box.after, STRIP, sizeof box.after);
+           all(box.beside, STRIP, sizeof box.beside) && all(box.after, STRIP, sizeof box.after);
 }
 
 static int same_settings(const settings *a, const settings *b) {
@@ -127,6 +129,34 @@ static answer encode(uint8_t cmd1, uint8_t cmd2, const settings *s, uint8_t *out
 static answer standard_list(const settings *s, uint8_t *output, imjarlet_size m) {
     memset(&numbers, BEFORE, sizeof numbers);
     return filled(imjarlet_standard_list(s, output, m, &numbers.size));
+}
+
+/* Judging the packet in `packet`: the controller stays, and with a refusal the judgement too. */
+static uint32_t judge(imjarlet_size n) {
+    controller was = box.c;
+    uint32_t refusal;
+    memset(&box.j, BEFORE, sizeof box.j);
+    refusal = imjarlet_judge(&box.c, packet, n, &box.j);
+    check(same_controller(&box.c, &was) && strips_untouched(), "judging touches nothing but the judgement");
+    check(refusal == IMJARLET_NO_REFUSAL || all(&box.j, BEFORE, sizeof box.j),
+          "a refused judging leaves the judgement");
+    return refusal;
+}
+
+/* Carrying out the judgement in the box, which stays. The half-received packet stays too. */
+static answer carry_out(uint8_t *output, imjarlet_size m) {
+    controller was = box.c;
+    imjarlet_judgement j = box.j;
+    answer a;
+    memset(&numbers, BEFORE, sizeof numbers);
+    a = filled(imjarlet_carry_out(&box.c, &box.j, output, m, &numbers.size));
+    check(memcmp(&box.j, &j, sizeof j) == 0 && strips_untouched(), "carrying out leaves the judgement");
+    check(box.c.registers.received == was.registers.received && box.c.registers.sum == was.registers.sum &&
+              memcmp(box.c.registers.header, was.registers.header, 6) == 0 &&
+              memcmp(box.c.hold, was.hold, sizeof was.hold) == 0,
+          "carrying out leaves the half-received packet");
+    check(a.refusal == IMJARLET_NO_REFUSAL || same_controller(&box.c, &was), "a refused carrying out leaves the head");
+    return a;
 }
 
 static void reset(void) {
@@ -558,6 +588,225 @@ static void wrong_bytes(void) {
     check(draws(IMJARLET_CODE_MODE, IMJARLET_HOST_WRITE, 0x04, 0x02, IMJARLET_WHOLE, "\1", 1), "no byte with 07");
 }
 
+/* Whether a ruling is this, and nothing else; the kept items are those of the controller. */
+static int rules(unsigned codes, uint16_t accepts, uint16_t wrong, uint16_t count, uint8_t cmd1, uint8_t cmd2) {
+    imjarlet_ruling r;
+    memset(&r, BEFORE, sizeof r);
+    r.codes = (uint16_t)codes;
+    r.accepts = accepts;
+    r.wrong = wrong;
+    r.count = count;
+    r.cmd1 = cmd1;
+    r.cmd2 = cmd2;
+    r.kept.held = box.c.registers.held;
+    r.kept.mode = box.c.settings.mode;
+    r.kept.active = box.c.registers.active;
+    r.kept.cmd1 = box.c.registers.cmd1;
+    r.kept.cmd2 = box.c.registers.cmd2;
+    return memcmp(&box.j.ruling, &r, sizeof r) == 0;
+}
+
+/* The joined data are these bytes, and the array behind them is as it was. */
+static int joins(const void *data, size_t n) {
+    return (n == 0 || memcmp(box.j.joined, data, n) == 0) && all(box.j.joined + n, BEFORE, IMJARLET_HOLD - n);
+}
+
+/* Asks for a packet. */
+static uint32_t ask(uint8_t type, uint8_t cmd1, uint8_t cmd2, uint8_t flags, const void *data, size_t n) {
+    return judge(make(type, cmd1, cmd2, flags, data, n));
+}
+
+/* Asking first, and carrying out: with a packet half received, which has no say in either. */
+static void asked_first(void) {
+    static uint8_t full[IMJARLET_HOLD + 1];
+    const uint16_t none = IMJARLET_JUDGED_NO_WRONG_BYTE;
+    imjarlet_registers *at = &box.c.registers;
+    imjarlet_judgement kept;
+    controller was;
+    answer a;
+    size_t n;
+    int k;
+
+    /* each command, as a write and as a read */
+    reset();
+    make(IMJARLET_HOST_WRITE, 0x01, 0x04, IMJARLET_WHOLE, six, 6);
+    check(waits(receive(packet, 9, out, sizeof out), 9), "half a packet");
+    for (k = 0; k < 9; k++) {
+        uint8_t c1 = writes[k].cmd1, c2 = writes[k].cmd2;
+        settings expected = box.c.settings;
+        n = writes[k].size;
+        set(&expected, k);
+        check(ask(IMJARLET_HOST_WRITE, c1, c2, IMJARLET_WHOLE, writes[k].data, n) == IMJARLET_NO_REFUSAL &&
+                  rules(0, IMJARLET_ACCEPTS_WRITE, none, (uint16_t)n, c1, c2) && joins(writes[k].data, n),
+              "a write is accepted");
+        memset(out, 0xA5, sizeof out);
+        check(emits(carry_out(out, sizeof out), IMJARLET_NO_REFUSAL, 7) && out[0] == IMJARLET_WRITE_RESPONSE &&
+                  out[1] == c1 && out[2] == c2 && out[7] == 0xA5 && same_settings(&box.c.settings, &expected),
+              "a write is carried out");
+        ask(IMJARLET_HOST_READ, c1, c2, IMJARLET_WHOLE, NULL, 0);
+        if (k == 3) {
+            check(rules(IMJARLET_CODE_BIT(IMJARLET_CODE_COMMAND), IMJARLET_ACCEPTS_NOTHING, none, 0, c1, c2) &&
+                      joins(NULL, 0),
+                  "01 06 is not read");
+            continue;
+        }
+        check(rules(0, IMJARLET_ACCEPTS_READ, none, 0, c1, c2) && joins(NULL, 0), "a read is accepted");
+        a = carry_out(out, sizeof out);
+        check(emits(a, IMJARLET_NO_REFUSAL, 7 + n) && out[0] == IMJARLET_READ_RESPONSE &&
+                  memcmp(out + 6, writes[k].data, n) == 0 && same_settings(&box.c.settings, &expected),
+              "a read is carried out");
+    }
+    check(answers(receive(packet, 0, out, sizeof out), 0, 0) && at->received == 9, "the packet is still half received");
+
+    /* the codes: each by itself, and those that are reported together */
+    reset();
+    for (k = 0; k < (int)(sizeof bad / sizeof bad[0]); k++) {
+        uint8_t c1 = bad[k].cmd1, c2 = bad[k].cmd2;
+        ask(IMJARLET_HOST_WRITE, c1, c2, IMJARLET_WHOLE, bad[k].data, bad[k].size);
+        check(rules(IMJARLET_CODE_BIT(IMJARLET_CODE_VALUE), IMJARLET_ACCEPTS_NOTHING, bad[k].byte, 0, c1, c2) &&
+                  joins(NULL, 0),
+              "the wrong byte of a judgement");
+    }
+    ask(IMJARLET_HOST_WRITE, 0x04, 0x02, IMJARLET_WHOLE, "\1", 1);
+    check(rules(IMJARLET_CODE_BIT(IMJARLET_CODE_MODE), 0, none, 0, 0x04, 0x02), "code 07 of a judgement");
+    ask(IMJARLET_HOST_WRITE, 0x01, 0x01, IMJARLET_WHOLE, "\1\1", 2);
+    check(rules(IMJARLET_CODE_BIT(IMJARLET_CODE_SIZE), 0, none, 0, 0x01, 0x01), "code 0A of a judgement");
+    ask(IMJARLET_HOST_WRITE, 0x01, 0x04, IMJARLET_BEGINNING, full, IMJARLET_HOLD + 1);
+    check(rules(IMJARLET_CODE_BIT(IMJARLET_CODE_LENGTH), 0, none, 0, 0x01, 0x04) && joins(NULL, 0),
+          "code 04 of a judgement");
+    n = make(IMJARLET_HOST_WRITE, 0x09, 0x09, 7, NULL, 0);
+    packet[n - 1]++;
+    check(judge(n) == IMJARLET_NO_REFUSAL &&
+              rules(IMJARLET_CODE_BIT(IMJARLET_CODE_COMMAND) | IMJARLET_CODE_BIT(IMJARLET_CODE_CHECKSUM) |
+                        IMJARLET_CODE_BIT(IMJARLET_CODE_ORDER),
+                    0, none, 0, 0x09, 0x09),
+          "three codes of a judgement");
+    check(emits(carry_out(out, sizeof out), IMJARLET_NO_REFUSAL, 10) && out[0] == IMJARLET_ERROR && out[1] == 0x09 &&
+              out[6] == IMJARLET_CODE_COMMAND && out[7] == IMJARLET_CODE_CHECKSUM && out[8] == IMJARLET_CODE_ORDER,
+          "an error packet is carried out");
+
+    /* a transfer: parts are held, the last one is carried out, and an error closes it */
+    reset();
+    ask(IMJARLET_HOST_WRITE, 0x01, 0x04, IMJARLET_BEGINNING, six, 3);
+    check(rules(0, IMJARLET_ACCEPTS_HOLD, none, 3, 0x01, 0x04) && joins(six, 3), "a beginning is accepted");
+    kept = box.j;
+    check(emits(carry_out(out, sizeof out), IMJARLET_NO_REFUSAL, 7) && at->active == 1 && at->cmd1 == 0x01 &&
+              at->cmd2 == 0x04 && at->held == 3 && memcmp(box.c.buffer, six, 3) == 0 && box.c.buffer[3] == 0,
+          "a beginning is carried out");
+    check(emits(carry_out(out, sizeof out), IMJARLET_STALE, 0), "a beginning is carried out once");
+    ask(IMJARLET_HOST_WRITE, 0x01, 0x04, IMJARLET_INTERMEDIATE, six + 3, 2);
+    check(rules(0, IMJARLET_ACCEPTS_HOLD, none, 5, 0x01, 0x04) && joins(six, 5), "an intermediate packet is accepted");
+    check(emits(carry_out(out, sizeof out), IMJARLET_NO_REFUSAL, 7) && at->held == 5 &&
+              memcmp(box.c.buffer, six, 5) == 0 && box.c.buffer[5] == 0,
+          "an intermediate packet is carried out");
+    was = box.c;
+    ask(IMJARLET_HOST_WRITE, 0x01, 0x04, IMJARLET_LAST, six + 5, 1);
+    check(rules(0, IMJARLET_ACCEPTS_WRITE, none, 6, 0x01, 0x04) && joins(six, 6), "a last packet is accepted");
+    check(emits(carry_out(out, sizeof out), IMJARLET_NO_REFUSAL, 7) && at->active == 0 && at->held == 0 &&
+              box.c.settings.current.blue.counts == 0x03FF,
+          "a last packet is carried out");
+    box.c = was;
+    ask(IMJARLET_HOST_READ, 0x01, 0x04, IMJARLET_WHOLE, NULL, 0);
+    check(rules(IMJARLET_CODE_BIT(IMJARLET_CODE_ORDER), 0, none, 5, 0x01, 0x04) && joins(six, 5),
+          "a judgement with a code has the held bytes");
+    was.registers.active = was.registers.cmd1 = was.registers.cmd2 = 0;
+    was.registers.held = 0;
+    check(emits(carry_out(out, sizeof out), IMJARLET_NO_REFUSAL, 8) && same_controller(&box.c, &was),
+          "an error closes the transfer and changes nothing else");
+    reset();
+    memset(full, 0x5A, sizeof full);
+    ask(IMJARLET_HOST_WRITE, 0x01, 0x04, IMJARLET_BEGINNING, full, IMJARLET_HOLD);
+    check(rules(0, IMJARLET_ACCEPTS_HOLD, none, IMJARLET_HOLD, 0x01, 0x04) && joins(full, IMJARLET_HOLD) &&
+              emits(carry_out(out, sizeof out), IMJARLET_NO_REFUSAL, 7) &&
+              memcmp(box.c.buffer, full, IMJARLET_HOLD) == 0,
+          "1,024 bytes are joined and held");
+
+    /* stale: each kept item */
+#define STALE_WITH(change)                                                                             \
+    do {                                                                                               \
+        reset();                                                                                       \
+        at->active = 1;                                                                                \
+        at->cmd1 = 0x01;                                                                               \
+        at->cmd2 = 0x04;                                                                               \
+        at->held = 5;                                                                                  \
+        memcpy(box.c.buffer, six, 5);                                                                  \
+        ask(IMJARLET_HOST_WRITE, 0x01, 0x04, IMJARLET_LAST, six + 5, 1);                               \
+        was = box.c;                                                                                   \
+        change;                                                                                        \
+        check(emits(carry_out(out, sizeof out), IMJARLET_STALE, 0), "stale: " #change);                \
+        box.c = was;                                                                                   \
+        check(emits(carry_out(out, sizeof out), IMJARLET_NO_REFUSAL, 7), "stale no more: " #change);   \
+    } while (0)
+    STALE_WITH(box.c.settings.mode = 1);
+    STALE_WITH(at->active = 0);
+    STALE_WITH(at->cmd2 = 0x03);
+    STALE_WITH(at->cmd1 = 0x04; at->cmd2 = 0x00);
+    STALE_WITH(at->held = 4);
+    STALE_WITH(box.c.buffer[4]++);
+#undef STALE_WITH
+    reset();
+    box.j = kept;
+    at->active = 1;
+    at->cmd1 = 0x01;
+    at->cmd2 = 0x04;
+    check(emits(carry_out(out, sizeof out), IMJARLET_STALE, 0), "none open is not open with nothing held");
+    reset();
+    at->cmd1 = 0x09;
+    at->held = 7;
+    box.c.buffer[0] = 0x77;
+    check(emits(carry_out(out, sizeof out), IMJARLET_NO_REFUSAL, 7), "what no transfer has counts for nothing");
+
+    /* forged: each field by itself, in a write of 01 04 */
+#define FORGED(change, number)                                                                           \
+    do {                                                                                                 \
+        reset();                                                                                         \
+        ask(IMJARLET_HOST_WRITE, 0x01, 0x04, IMJARLET_WHOLE, six, 6);                                    \
+        change;                                                                                          \
+        check(emits(carry_out(out, sizeof out), number, 0), "forged: " #change);                         \
+    } while (0)
+    FORGED(box.j.joined[1] = 5, IMJARLET_NOT_ALLOWED);
+    FORGED(box.j.ruling.count = 5, IMJARLET_NOT_ALLOWED);
+    FORGED(box.j.ruling.count = 0xFFFF, IMJARLET_NOT_ALLOWED);
+    FORGED(box.j.ruling.accepts = IMJARLET_ACCEPTS_NOTHING, IMJARLET_NOT_ALLOWED);
+    FORGED(box.j.ruling.accepts = IMJARLET_ACCEPTS_READ, IMJARLET_NOT_ALLOWED);
+    FORGED(box.j.ruling.accepts = 4, IMJARLET_NOT_ALLOWED);
+    FORGED(box.j.ruling.wrong = 0, IMJARLET_NOT_ALLOWED);
+    FORGED(box.j.ruling.cmd2 = 5, IMJARLET_NOT_ALLOWED);
+    FORGED(box.j.ruling.codes = 1, IMJARLET_NOT_ALLOWED); /* bit 0 is no code */
+    FORGED(box.j.ruling.codes = 0xF000, IMJARLET_NOT_ALLOWED);
+    FORGED(box.j.ruling.kept.mode = 3, IMJARLET_NOT_ALLOWED);
+    FORGED(box.j.ruling.kept.mode = 4, IMJARLET_STALE);
+    FORGED(box.j.ruling.kept.held = IMJARLET_HOLD + 1, IMJARLET_NOT_ALLOWED);
+    FORGED(box.j.ruling.kept.active = 1, IMJARLET_NOT_ALLOWED); /* 00 00 is not in the table */
+    FORGED(box.j.ruling.accepts = IMJARLET_ACCEPTS_HOLD; box.j.ruling.count = IMJARLET_HOLD + 1, IMJARLET_NOT_ALLOWED);
+    FORGED(box.j.ruling.accepts = IMJARLET_ACCEPTS_READ; box.j.ruling.count = 0; box.j.ruling.cmd2 = 6,
+           IMJARLET_NOT_ALLOWED);
+    FORGED(box.j.ruling.cmd1 = 4; box.j.ruling.cmd2 = 2; box.j.ruling.count = 1, IMJARLET_NOT_ALLOWED); /* run 1 */
+#undef FORGED
+    /* with a code nothing of this is asked: all codes, and bits that are none */
+    memset(&box.j, 0xFF, sizeof box.j);
+    box.j.ruling.kept.mode = 0;
+    box.j.ruling.kept.active = 0;
+    check(emits(carry_out(out, sizeof out), IMJARLET_NO_REFUSAL, 18) && out[0] == IMJARLET_ERROR && out[1] == 0xFF &&
+              out[4] == 11 && out[6] == 0x01 && out[16] == IMJARLET_CODE_ORDER,
+          "a judgement with all codes");
+
+    /* the other refusals, and their order */
+    check(emits(carry_out(out, IMJARLET_OUTPUT_LEAST - 1), IMJARLET_SHORT_OUTPUT, 0), "carrying out: 63 bytes");
+    check(emits(carry_out(NULL, 0), IMJARLET_SHORT_OUTPUT, 0), "carrying out: no output");
+    n = make(IMJARLET_HOST_WRITE, 0x01, 0x01, IMJARLET_WHOLE, "\1", 1);
+    check(judge(n - 1) == IMJARLET_NOT_ONE_PACKET && judge(n + 1) == IMJARLET_NOT_ONE_PACKET &&
+              judge(6) == IMJARLET_NOT_ONE_PACKET && judge(0) == IMJARLET_NOT_ONE_PACKET,
+          "judging what is not one packet");
+    check(imjarlet_judge(&box.c, NULL, 0, &box.j) == IMJARLET_NOT_ONE_PACKET, "judging nothing");
+    check(judge(n) == IMJARLET_NO_REFUSAL, "judging one packet");
+    box.j.joined[0] = 3;
+    box.c.settings.mode = 3;
+    check(emits(carry_out(out, IMJARLET_OUTPUT_LEAST - 1), IMJARLET_SHORT_OUTPUT, 0), "1 before 3");
+    check(emits(carry_out(out, IMJARLET_OUTPUT_LEAST), IMJARLET_OUT_OF_RULE, 0), "3 before 2");
+    check(judge(n) == IMJARLET_OUT_OF_RULE && judge(n - 1) == IMJARLET_OUT_OF_RULE, "3 before 5");
+}
+
 /* Reports of two trials: trial 0 scores 9 and sends nothing, trial 1 scores `score` and sends one packet. */
 static size_t record_at(size_t at, unsigned kind, const void *body, size_t n) {
     report[at] = (uint8_t)n;
@@ -648,6 +897,7 @@ static void reports(void) {
 int main(void) {
     LAYOUT(PRINT_SIZE, PRINT_OFFSET, NOTHING)
     printf("no_wrong_byte %" PRIu64 "\n", IMJARLET_NO_WRONG_BYTE);
+    printf("judged_no_wrong_byte %u\n", (unsigned)IMJARLET_JUDGED_NO_WRONG_BYTE);
     fresh();
     every_setting();
     out_of_rule();
@@ -657,6 +907,7 @@ int main(void) {
     longest();
     codes_and_lengths();
     wrong_bytes();
+    asked_first();
     reports();
     check(strips_untouched(), "nothing beside what is lent is touched");
     fprintf(stderr, "layout.c: %u checks, %u failed\n", checks, failures);

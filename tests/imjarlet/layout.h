@@ -1,6 +1,6 @@
 /*
- * Every size and offset of include/imjarlet.h, and that the number for no wrong byte has 64 bits, asserted
- * when this is compiled: also for a target on which nothing can be run, by
+ * Every size and offset of include/imjarlet.h, and that the number for no wrong byte has 64 bits, and in a
+ * judgement 16, asserted when this is compiled: also for a target on which nothing can be run, by
  *     cc -std=c99 -ffreestanding -fsyntax-only -Iinclude -x c tests/imjarlet/layout.h
  */
 #ifndef IMJARLET_LAYOUT_H
@@ -36,6 +36,12 @@
     FIELD(registers, header, 9) FIELD(registers, sum, 15) END()                                    \
     TYPE(controller, 2120) FIELD(controller, settings, 0) FIELD(controller, registers, 56)         \
     FIELD(controller, buffer, 72) FIELD(controller, hold, 1096) END()                              \
+    TYPE(kept, 6) FIELD(kept, held, 0) FIELD(kept, mode, 2) FIELD(kept, active, 3)                 \
+    FIELD(kept, cmd1, 4) FIELD(kept, cmd2, 5) END()                                                \
+    TYPE(ruling, 16) FIELD(ruling, codes, 0) FIELD(ruling, accepts, 2) FIELD(ruling, wrong, 4)     \
+    FIELD(ruling, count, 6) FIELD(ruling, cmd1, 8) FIELD(ruling, cmd2, 9)                          \
+    FIELD(ruling, kept, 10) END()                                                                  \
+    TYPE(judgement, 1040) FIELD(judgement, ruling, 0) FIELD(judgement, joined, 16) END()           \
     TYPE(verdict, 80) FIELD(verdict, place, 0) FIELD(verdict, trial, 8) FIELD(verdict, score, 16)  \
     FIELD(verdict, settings, 24) END()
 
@@ -44,5 +50,6 @@
 
 typedef char size_of_no_wrong_byte[sizeof(IMJARLET_NO_WRONG_BYTE) == 8 ? 1 : -1];
 typedef char no_wrong_byte[IMJARLET_NO_WRONG_BYTE == 0xFFFFFFFFFFFFFFFFu ? 1 : -1];
+typedef char judged_no_wrong_byte[(uint16_t)IMJARLET_JUDGED_NO_WRONG_BYTE == IMJARLET_JUDGED_NO_WRONG_BYTE ? 1 : -1];
 
 #endif

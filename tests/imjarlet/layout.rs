@@ -49,6 +49,12 @@ layout! {
         sum as "sum"
     }
     "controller" Controller, 2120 { settings as "settings", registers as "registers", buffer as "buffer", hold as "hold" }
+    "kept" Kept, 6 { held as "held", mode as "mode", active as "active", cmd1 as "cmd1", cmd2 as "cmd2" }
+    "ruling" Ruling, 16 {
+        codes as "codes", accepts as "accepts", wrong as "wrong", count as "count", cmd1 as "cmd1", cmd2 as "cmd2",
+        kept as "kept"
+    }
+    "judgement" Judgement, 1040 { ruling as "ruling", joined as "joined" }
     "verdict" raw::Verdict, 80 { place as "place", trial as "trial", score as "score", settings as "settings" }
 }
 
@@ -120,9 +126,66 @@ fn wrong_bytes(head: &mut Controller) {
     head.reset();
 }
 
+/// Asking first, and then carrying out: each kind of judgement, what it keeps and what is refused.
+fn asked_first() {
+    let mut head = Controller::fresh();
+    let mut out = [0xA5u8; OUTPUT_LEAST];
+    head.registers.held = 5; // of no open transfer: kept as it stands, and it counts for nothing
+    let before = head.clone();
+    let kept = Kept { held: 5, mode: 0, active: 0, cmd1: 0, cmd2: 0 };
+
+    // a write: 01 03 with test pattern 3
+    let write = head.judge(&[2, 1, 3, 0, 1, 0, 3, 0x0A]).unwrap();
+    let ruling = Ruling { codes: 0, accepts: 2, wrong: raw::JUDGED_NO_WRONG_BYTE, count: 1, cmd1: 1, cmd2: 3, kept };
+    assert_eq!((write.ruling, write.ruling.asks()), (ruling, Some(Asks::Write)));
+    assert_eq!((write.joined[0], write.ruling.codes().count(), write.ruling.wrong()), (3, 0, None));
+    // errors: several codes, and the wrong byte of 01 04 with green 1025
+    let error = head.judge(&[2, 1, 2, 7, 0, 0, 0]).unwrap();
+    assert_eq!((error.ruling.codes().collect::<Vec<_>>(), error.ruling.asks()), (vec![2, 9, 0x0B], None));
+    let error = head.judge(&[2, 1, 4, 0, 6, 0, 0, 4, 1, 4, 0, 4, 0x1A]).unwrap();
+    assert_eq!((error.ruling.codes().collect::<Vec<_>>(), error.ruling.wrong()), (vec![3], Some(2)));
+    // a read, and a beginning
+    let read = head.judge(&[4, 1, 3, 0, 0, 0, 8]).unwrap();
+    let hold = head.judge(&[2, 1, 3, 1, 0, 0, 7]).unwrap();
+    assert_eq!((read.ruling.asks(), hold.ruling.asks()), (Some(Asks::Read), Some(Asks::Hold)));
+    assert_eq!(head.judge(&[2, 1, 3, 0, 1, 0, 3]), Err(Refusal::NotOnePacket));
+    assert_eq!(head, before);
+
+    // carried out: a read tells what the head has then, not what it had when it was asked
+    assert_eq!(head.carry_out(&write, &mut out), Ok(7));
+    assert_eq!((head.settings.pattern, out[..7].to_vec()), (3, vec![3, 1, 3, 0, 0, 0, 7]));
+    assert_eq!(head.carry_out(&read, &mut out), Ok(8));
+    assert_eq!(out[..8], [5, 1, 3, 0, 1, 0, 3, 0x0D]);
+    // a transfer that is opened makes all of them stale, that of the beginning too
+    assert_eq!(head.carry_out(&hold, &mut out), Ok(7));
+    for j in [&write, &read, &error, &hold] {
+        assert_eq!(head.carry_out(j, &mut out), Err(Refusal::Stale));
+    }
+    let last = head.judge(&[2, 1, 3, 3, 1, 0, 5, 0x0F]).unwrap();
+    assert_eq!(last.ruling.kept, Kept { held: 0, mode: 0, active: 1, cmd1: 1, cmd2: 3 });
+    assert_eq!(head.carry_out(&last, &mut out), Ok(7));
+    assert_eq!((head.settings.pattern, head.registers.active), (5, 0));
+
+    // forged: test pattern 14, which no packet draws; with an error code it is carried out all the same
+    let mut forged = write.clone();
+    forged.joined[0] = 14;
+    assert_eq!(head.carry_out(&forged, &mut out), Err(Refusal::NotAllowed));
+    forged.ruling.kept.mode = 4;
+    assert_eq!(head.carry_out(&forged, &mut out), Err(Refusal::NotAllowed));
+    forged.ruling.kept.mode = 0;
+    forged.ruling.codes = 1 << 0x08 | 1 << 0x01;
+    assert_eq!(head.carry_out(&forged, &mut out), Ok(9));
+    assert_eq!(out[..9], [1, 1, 3, 0, 2, 0, 1, 8, 0x10]);
+    assert_eq!(head.carry_out(&write, &mut out[1..]), Err(Refusal::ShortOutput));
+    head.settings.mode = 3;
+    assert_eq!(head.carry_out(&write, &mut out), Err(Refusal::OutOfRule));
+    assert_eq!(head.judge(&[]), Err(Refusal::OutOfRule));
+}
+
 fn main() {
     print_layout();
     println!("no_wrong_byte {}", raw::NO_WRONG_BYTE);
+    println!("judged_no_wrong_byte {}", raw::JUDGED_NO_WRONG_BYTE);
     filled();
     let mut head = Controller::fresh();
     let fresh = head.clone();
@@ -151,6 +214,7 @@ fn main() {
     }
     assert_eq!(head.receive(&[], &mut out), Ok(Answer::Waiting { taken: 0 }));
     wrong_bytes(&mut head);
+    asked_first();
 
     // every refusal
     assert_eq!(head.receive(&list, &mut out[..OUTPUT_LEAST - 1]), Err(Refusal::ShortOutput));
