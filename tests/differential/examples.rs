@@ -1,6 +1,7 @@
 //! Document 01's own packets and reports, each for a fresh factory controller: the library and the
 //! model must both give what the paper prints. And request 4: the byte that both must name, field by field,
-//! and the place of refusal 18.
+//! and the place of refusal 18. And request 5: asked first, with half of another packet received, these
+//! packets are answered alike.
 
 use super::{ffi, generate, model};
 
@@ -77,6 +78,36 @@ fn draw(stream: &[u8]) -> [Drawn; 2] {
     all
 }
 
+/// What both sides give, the library first, where each packet is asked for and then carried out. The head has
+/// received half of another one.
+fn ask(stream: &[u8]) -> [Drawn; 2] {
+    let mut ours = model::Controller::default();
+    let half = ours.receive(&[2, 1, 4, 0, 6, 0, 1], &mut [0; 64]);
+    let mut theirs = ffi::Controller::from(&ours);
+    let mut stood = generate::any_judgement(&mut generate::Rng::new(0, 0));
+    let mut asked = ffi::Judgement::from(&stood);
+    let mut all = <[Drawn; 2]>::default();
+    let mut out = [0; 64];
+    for packet in generate::packets(stream) {
+        let mut size = 0;
+        let refusals = [
+            ffi::judge(&mut theirs, &packet, &mut asked),
+            ffi::carry_out(&mut theirs, &mut asked, &mut out, &mut size),
+        ];
+        if refusals == [0, 0] && theirs.registers.received == 7 {
+            all[0].responses.extend(&out[..size as usize]);
+            all[0].bytes.push(asked.ruling.wrong.into());
+        }
+        let judged = ours.judge(&packet, &mut stood);
+        let carried = ours.carry_out(&stood, &mut out);
+        if let (Ok(_), Ok(()), Ok(length), 7) = (half, judged, carried, ours.received) {
+            all[1].responses.extend(&out[..length]);
+            all[1].bytes.push(stood.wrong.into());
+        }
+    }
+    all
+}
+
 /// What is named otherwise than by the field's first byte: whole, and in a transfer, cut at each place.
 fn wrong_bytes() -> Vec<String> {
     let mut wrong = Vec::new();
@@ -97,6 +128,14 @@ fn wrong_bytes() -> Vec<String> {
                     wrong.push(what);
                 }
             }
+            let wanted: Vec<u64> = wanted.iter().map(|&byte| byte as u16 as u64).collect();
+            for (side, Drawn { bytes, .. }) in ["library", "model"].iter().zip(ask(&stream)) {
+                if bytes != wanted {
+                    let what =
+                        format!("{side}, asked, {stream:02X?}: bytes {bytes:?}, not {wanted:?}");
+                    wrong.push(what);
+                }
+            }
         }
     }
     wrong
@@ -106,7 +145,9 @@ fn wrong_bytes() -> Vec<String> {
 pub fn wrong() -> Vec<String> {
     let mut wrong = wrong_bytes();
     let mut stream = |name: &str, input: &[u8], wanted: Vec<u8>| {
-        for (side, drawn) in ["library", "model"].iter().zip(draw(input)) {
+        let sides = ["library", "model", "library, asked", "model, asked"];
+        let all = draw(input).into_iter().chain(ask(input));
+        for (side, drawn) in sides.iter().zip(all) {
             let got = drawn.responses;
             if got != wanted {
                 wrong.push(format!("{side}, {name}: {got:02X?}, not {wanted:02X?}"));
