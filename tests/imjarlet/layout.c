@@ -621,7 +621,6 @@ static void asked_first(void) {
     static uint8_t full[IMJARLET_HOLD + 1];
     const uint16_t none = IMJARLET_JUDGED_NO_WRONG_BYTE;
     imjarlet_registers *at = &box.c.registers;
-    imjarlet_judgement kept;
     controller was;
     answer a;
     size_t n;
@@ -689,7 +688,6 @@ static void asked_first(void) {
     reset();
     ask(IMJARLET_HOST_WRITE, 0x01, 0x04, IMJARLET_BEGINNING, six, 3);
     check(rules(0, IMJARLET_ACCEPTS_HOLD, none, 3, 0x01, 0x04) && joins(six, 3), "a beginning is accepted");
-    kept = box.j;
     check(emits(carry_out(out, sizeof out), IMJARLET_NO_REFUSAL, 7) && at->active == 1 && at->cmd1 == 0x01 &&
               at->cmd2 == 0x04 && at->held == 3 && memcmp(box.c.buffer, six, 3) == 0 && box.c.buffer[3] == 0,
           "a beginning is carried out");
@@ -744,17 +742,24 @@ static void asked_first(void) {
     STALE_WITH(at->held = 4);
     STALE_WITH(box.c.buffer[4]++);
 #undef STALE_WITH
+    /* what stands beside a transfer that is not open is kept as it is, and compared with nothing */
     reset();
-    box.j = kept;
-    at->active = 1;
     at->cmd1 = 0x01;
     at->cmd2 = 0x04;
+    ask(IMJARLET_HOST_WRITE, 0x01, 0x04, IMJARLET_BEGINNING, six, 3);
+    at->active = 1;
     check(emits(carry_out(out, sizeof out), IMJARLET_STALE, 0), "none open is not open with nothing held");
     reset();
     at->cmd1 = 0x09;
     at->held = 7;
     box.c.buffer[0] = 0x77;
-    check(emits(carry_out(out, sizeof out), IMJARLET_NO_REFUSAL, 7), "what no transfer has counts for nothing");
+    check(emits(carry_out(out, sizeof out), IMJARLET_NO_REFUSAL, 7) && at->held == 3 && box.c.buffer[0] == six[0],
+          "what no transfer has counts for nothing");
+    reset();
+    at->cmd1 = 0x09;
+    at->held = 7;
+    ask(IMJARLET_HOST_WRITE, 0x01, 0x04, IMJARLET_BEGINNING, six, 3);
+    check(rules(0, IMJARLET_ACCEPTS_HOLD, none, 3, 0x01, 0x04) && joins(six, 3), "what no transfer has is kept");
 
     /* forged: each field by itself, in a write of 01 04 */
 #define FORGED(change, number)                                                                           \
