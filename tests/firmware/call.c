@@ -103,6 +103,8 @@ enum {
     WAITING, WRITTEN, READ, FAULTY, SHORT, RULE,
     CODE_02, CODE_03, CODE_04, CODE_07, CODE_09, CODE_0A, CODE_0B,
     BYTE_0, BYTE_1, BYTE_2, BYTE_3, BYTE_4, BYTE_16,
+    JUDGES, JUDGED_ERROR, JUDGED_HOLD, JUDGED_WRITE, JUDGED_READ, JUDGE_RULE, JUDGE_NOT_ONE,
+    CARRIES, CARRIED_ERROR, CARRIED_HOLD, CARRIED_WRITE, CARRIED_READ, CARRY_SHORT, CARRY_NOT, CARRY_RULE, CARRY_STALE,
     ENCODED, ENCODE_SHORT, ENCODE_NOT,
     LISTED, LIST_SHORT, LIST_RULE,
     ACCEPTED, REFUSED_10, REFUSED_20 = REFUSED_10 + 10,
@@ -116,6 +118,9 @@ static const char *const names[KINDS] = {
     "receive: refusal 1", "receive: refusal 3",
     "code: 02", "code: 03", "code: 04", "code: 07", "code: 09", "code: 0A", "code: 0B",
     "wrong byte: 0", "wrong byte: 1", "wrong byte: 2", "wrong byte: 3", "wrong byte: 4", "wrong byte: 16",
+    "judge: calls", "judge: error", "judge: hold", "judge: write", "judge: read", "judge: refusal 3", "judge: refusal 5",
+    "carry_out: calls", "carry_out: error", "carry_out: hold", "carry_out: write", "carry_out: read",
+    "carry_out: refusal 1", "carry_out: refusal 2", "carry_out: refusal 3", "carry_out: refusal 4",
     "encode: written", "encode: refusal 1", "encode: refusal 2",
     "standard_list: written", "standard_list: refusal 1", "standard_list: refusal 3",
     "check_report: accepted", "check_report: refusal 10", "check_report: refusal 11", "check_report: refusal 12",
@@ -165,6 +170,34 @@ static void saw_receipt(uint32_t refusal, uint64_t cut, uint64_t size, uint64_t 
     }
 }
 
+/* What a judgement asks to be done: by its codes, and without any by its number. */
+static int asks(const imjarlet_judgement *j) {
+    if (j->ruling.codes != 0) return IMJARLET_ACCEPTS_NOTHING;
+    if (j->ruling.accepts < 1 || j->ruling.accepts > 3) leave(3, "no such thing is asked: ", j->ruling.accepts);
+    return j->ruling.accepts;
+}
+
+static void saw_judgement(uint32_t refusal, const imjarlet_judgement *j) {
+    seen[JUDGES]++;
+    if (refusal == IMJARLET_NO_REFUSAL) seen[JUDGED_ERROR + asks(j)]++;
+    else if (refusal == IMJARLET_OUT_OF_RULE) seen[JUDGE_RULE]++;
+    else if (refusal == IMJARLET_NOT_ONE_PACKET) seen[JUDGE_NOT_ONE]++;
+    else leave(3, "judge: no such refusal: ", refusal);
+}
+
+static void saw_carried(uint32_t refusal, const imjarlet_judgement *j, const uint8_t *out) {
+    static const uint8_t types[] = {IMJARLET_ERROR, IMJARLET_WRITE_RESPONSE, IMJARLET_WRITE_RESPONSE,
+                                    IMJARLET_READ_RESPONSE};
+    seen[CARRIES]++;
+    if (refusal == IMJARLET_SHORT_OUTPUT) seen[CARRY_SHORT]++;
+    else if (refusal == IMJARLET_NOT_ALLOWED) seen[CARRY_NOT]++;
+    else if (refusal == IMJARLET_OUT_OF_RULE) seen[CARRY_RULE]++;
+    else if (refusal == IMJARLET_STALE) seen[CARRY_STALE]++;
+    else if (refusal != IMJARLET_NO_REFUSAL) leave(3, "carry_out: no such refusal: ", refusal);
+    else if (out[0] != types[asks(j)]) leave(3, "carry_out: another response: ", out[0]);
+    else seen[CARRIED_ERROR + asks(j)]++;
+}
+
 static void saw_emitted(int first, uint32_t refusal, uint32_t other) {
     if (refusal == IMJARLET_NO_REFUSAL) seen[first]++;
     else if (refusal == IMJARLET_SHORT_OUTPUT) seen[first + 1]++;
@@ -189,7 +222,7 @@ static void saw_verdict(uint32_t refusal) {
  * its lowest end and never writes cannot be seen.
  */
 enum { PAINTED = 8192 };
-enum { OF_RESET, OF_RECEIVE, OF_ENCODE, OF_LIST, OF_REPORT, CALLS };
+enum { OF_RESET, OF_RECEIVE, OF_JUDGE, OF_CARRY_OUT, OF_ENCODE, OF_LIST, OF_REPORT, CALLS };
 
 static uintptr_t deepest[CALLS];
 
@@ -234,6 +267,8 @@ enum { ALIGNED = 16, RETURN = 8 };
 
 MEASURED(imjarlet_reset)
 MEASURED(imjarlet_receive)
+MEASURED(imjarlet_judge)
+MEASURED(imjarlet_carry_out)
 MEASURED(imjarlet_encode)
 MEASURED(imjarlet_standard_list)
 MEASURED(imjarlet_check_report)
@@ -337,6 +372,54 @@ static void stream(const uint8_t *p, const uint8_t *end) {
     if (reset) fresh();
 }
 
+/* Carries a judgement out on the head. */
+static void carry_out(const imjarlet_judgement *j, size_t length) {
+    imjarlet_size size;
+    uint8_t fill = (uint8_t)seen[CARRIES], *out = lend(fill);
+    uint32_t refusal;
+    if (painting) before = head;
+    MEASURE(OF_CARRY_OUT, head = before, imjarlet_carry_out(&head, j, out, length, &size))
+    if (painting) head = before;
+    lend(fill);
+    memset(&size, OLD, sizeof size);
+    refusal = imjarlet_carry_out(&head, j, out, length, &size);
+    put(&refusal, sizeof refusal);
+    put(&size, sizeof size);
+    put(out - BESIDE, BESIDE + length + BESIDE);
+    note(&head, sizeof head);
+    note(j, sizeof *j);
+    if (size > length) leave(3, "carry_out: a response longer than the output: ", size);
+    saw_carried(refusal, j, out);
+}
+
+/*
+ * The output's length and a head; and then a packet, which is judged and, where that is not refused, carried
+ * out, or a judgement, which is carried out.
+ */
+static void ask(uint8_t kind, const uint8_t *p, const uint8_t *end) {
+    static imjarlet_judgement j;
+    size_t length = p[0], n;
+    uint32_t refusal;
+    if ((size_t)(end - p) < 1 + sizeof head) leave(2, "no such head: ", seen[JUDGES]);
+    memcpy(&head, p + 1, sizeof head);
+    p += 1 + sizeof head;
+    n = (size_t)(end - p);
+    if (kind == 'C') {
+        if (n != sizeof j) leave(2, "no such judgement: ", seen[CARRIES]);
+        memcpy(&j, p, n);
+        carry_out(&j, length);
+        return;
+    }
+    MEASURE(OF_JUDGE, , imjarlet_judge(&head, p, n, &j))
+    memset(&j, OLD, sizeof j);
+    refusal = imjarlet_judge(&head, p, n, &j);
+    put(&refusal, sizeof refusal);
+    put(&j, sizeof j);
+    note(&head, sizeof head);
+    saw_judgement(refusal, &j);
+    if (refusal == IMJARLET_NO_REFUSAL) carry_out(&j, length);
+}
+
 /* The encoder again, with other bits above the command's bytes, which a caller may leave there: the same answer. */
 extern uint32_t encode_in_words(uint32_t cmd1, uint32_t cmd2, const imjarlet_settings *settings, uint8_t *out,
                                 imjarlet_size out_length, imjarlet_size *size) __asm__("imjarlet_encode");
@@ -401,6 +484,7 @@ static void answer(uint8_t kind, const uint8_t *p, const uint8_t *end) {
     if (kind == 'S') stream(p, end);
     else if (kind == 'E' || kind == 'L') emit(kind, p, end);
     else if (kind == 'R') report(p, end);
+    else if (kind == 'J' || kind == 'C') ask(kind, p, end);
     else leave(2, "no such kind of case: ", kind);
     put(&sum, sizeof sum);
 }
@@ -416,7 +500,8 @@ static int counted(void) {
 }
 
 static int measured(void) {
-    static const char *const calls[CALLS] = {"reset", "receive", "encode", "standard_list", "check_report"};
+    static const char *const calls[CALLS] = {"reset",  "receive",       "judge",       "carry_out",
+                                             "encode", "standard_list", "check_report"};
     int call;
     say_number("controller ", sizeof head, "\n");
     for (call = 0; call < CALLS; call++) {

@@ -12,7 +12,7 @@ mod model;
 
 use ffi::Wide;
 use generate::Rng;
-use model::{Command, Controller, Settings};
+use model::{Command, Controller, Judgement, Settings};
 use std::io::Write;
 use std::mem::transmute;
 
@@ -37,6 +37,11 @@ fn controller(from: &Controller, wide: &Wide) -> Vec<u8> {
     wide.put(&mut controller.settings);
     // Safety: the struct has no padding.
     unsafe { transmute::<ffi::Controller, [u8; 2120]>(controller) }.into()
+}
+
+fn judgement(from: &Judgement) -> Vec<u8> {
+    // Safety: the struct has no padding.
+    unsafe { transmute::<ffi::Judgement, [u8; 1040]>(from.into()) }.into()
 }
 
 /// Anything in some bytes of settings and registers.
@@ -65,6 +70,10 @@ enum Case {
     Encode([u8; 2], Vec<u8>, usize),
     List(Vec<u8>, usize),
     Report(Vec<u8>),
+    /// A head, and the packet that is judged there and carried out.
+    Judge(Vec<u8>, Vec<u8>, usize),
+    /// A head, and the judgement that is carried out there.
+    Carry(Vec<u8>, Vec<u8>, usize),
 }
 
 impl Case {
@@ -86,6 +95,8 @@ impl Case {
             }
             Case::List(settings, out) => [&[b'L', length(out)], &settings[..]].concat(),
             Case::Report(report) => [b"R", &report[..]].concat(),
+            Case::Judge(head, packet, out) => [&[b'J', length(out)], &head[..], &packet].concat(),
+            Case::Carry(head, j, out) => [&[b'C', length(out)], &head[..], &j].concat(),
         }
     }
 }
@@ -124,13 +135,25 @@ fn factory() -> Vec<u8> {
     settings(&Settings::FACTORY, &Wide::default())
 }
 
+/// A hold of 1,024 bytes, by a head at power-up.
+fn full_hold() -> Judgement {
+    let mut judgement = generate::any_judgement(&mut Rng::new(0, 0));
+    let packet = generate::packet(2, [1, 3], 1, &[7; model::HOLD]);
+    let judged = Controller::default().judge(&packet, &mut judgement);
+    judged.expect("a packet");
+    judgement
+}
+
 /// A case of each kind whose last byte matters, for call.c's own fault.
-fn fixed() -> [Case; 4] {
+fn fixed() -> [Case; 6] {
+    let fresh = || controller(&Controller::default(), &Wide::default());
     [
         Case::Stream(single(generate::packet(2, [1, 3], 0, &[5]), 64)),
         Case::Encode(Command::Run.bytes(), factory(), 64),
         Case::List(factory(), 128),
         Case::Report(include_bytes!("../../examples/accepted.report").to_vec()),
+        Case::Judge(fresh(), generate::packet(2, [1, 3], 0, &[5]), 64),
+        Case::Carry(fresh(), judgement(&full_hold()), 64),
     ]
 }
 
@@ -258,6 +281,29 @@ fn emit(rng: &mut Rng) -> Case {
     Case::Encode(cmd, bytes, rng.pick(&[any, 63, 64, 64, 64, 65]))
 }
 
+/// A packet that is judged, and a judgement, real or forged, for a head that is like the one it keeps.
+fn ask(rng: &mut Rng) -> [Case; 2] {
+    let (c, wide) = if rng.one_in(6) {
+        generate::damaged_controller(rng)
+    } else {
+        (generate::controller_in_rule(rng), Wide::default())
+    };
+    let mut on = (c, wide);
+    if rng.one_in(2) {
+        let like = generate::like(rng);
+        on = generate::alike(rng, &c, like);
+    }
+    let out = rng.pick(&[63, 64, 64, 64, 64, 64, 65, 128]);
+    [
+        Case::Judge(controller(&c, &wide), generate::asked(rng, &c), out),
+        Case::Carry(
+            controller(&on.0, &on.1),
+            judgement(&generate::forged(rng, &c)),
+            out,
+        ),
+    ]
+}
+
 fn main() -> std::io::Result<()> {
     let numbers: Vec<u64> = std::env::args()
         .skip(1)
@@ -286,6 +332,9 @@ fn main() -> std::io::Result<()> {
             write(Case::Stream(stream))?;
             write(emit(&mut rng))?;
             write(emit(&mut rng))?;
+            ask(&mut Rng::new(!seed, number))
+                .into_iter()
+                .try_for_each(&mut write)?;
         }
         if number < packets / 10 {
             write(Case::Report(generate::report(&mut rng)))?;
