@@ -246,7 +246,7 @@ typedef struct {
 /*
  * A judgement: 1,040 bytes that the caller owns. Nothing of it says which controller it was made on, and it
  * may be copied, stored and carried out later or more than once. One that other code has written or damaged
- * is answered like any other: 2, 4, or what a packet would have drawn.
+ * is answered like any other: by 2, by 4, by an error packet with its codes, or as a packet that draws it.
  */
 typedef struct {
     imjarlet_ruling ruling;
