@@ -176,7 +176,7 @@ rulingOf s r cmd1 cmd2 count j =
       kept = keptOf s r;
     }
 
--- the tests of `drawable` that look at the numbers alone (law drawn-is of carrying/Laws)
+-- the tests of `drawable` that look at the numbers alone (law drawable-is of carrying/Laws)
 abbrev pub rulingInRule : Ruling → Bool
 rulingInRule n =
     eqb (n .wrong) noByte

@@ -45,7 +45,13 @@ pub struct Asking {
 
 // Puts the data of a judgement at the start of an array: those that are held, and behind them those that
 // the packet brings, where it is accepted. How many they are.
-fn keep(t: TransferState, buffer: &[u8], payload: &[u8], j: Judgement, joined: &mut [u8; HOLD]) -> usize
+fn keep(
+    t: TransferState,
+    buffer: &[u8],
+    payload: &[u8],
+    j: Judgement,
+    joined: &mut [u8; HOLD],
+) -> usize
     requires { ⌜ (transferInRule t ≡ true) × (length (now buffer) ≡ 1024) × (length (now payload) < 65536)
         × (length (dataFor (heldBy t (now buffer)) (now payload) j) ≤ 1024) ⌝ }
     ensures { λ n. ⌜ (n ≡ length (dataFor (heldBy t (now (buffer .entry))) (now (payload .entry)) j))

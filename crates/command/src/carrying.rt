@@ -209,7 +209,16 @@ fn settle(
     let t = r.transfer();
     let held = t.held();
     let count = end(held, n.count as usize);
-    let s = carry(settings, r, buffer, n.cmd1, n.cmd2, &joined[held..count], j, out);
+    let s = carry(
+        settings,
+        r,
+        buffer,
+        n.cmd1,
+        n.cmd2,
+        &joined[held..count],
+        j,
+        out,
+    );
     let after = s.settings;
     let registers = s.registers;
     Performed {

@@ -120,7 +120,13 @@ pub(crate) fn judge(
 }
 
 // One whole packet, its checksum right or not.
-pub(crate) fn judge_packet(mode: u8, t: TransferState, buffer: &[u8], p: &[u8], right: bool) -> Judgement
+pub(crate) fn judge_packet(
+    mode: u8,
+    t: TransferState,
+    buffer: &[u8],
+    p: &[u8],
+    right: bool,
+) -> Judgement
     requires { ⌜ (7 ≤ length (now p)) × (length (now p) ≤ 65542) × (size (now p) ≡ length (now p)) × (right ≡ rightSum (now p)) × (transferInRule t ≡ true) × (length (now buffer) ≡ 1024) ⌝ }
     ensures { λ j. ⌜ j ≡ judgeOf mode (transferIn t (now (buffer .entry))) (arrived (now (p .entry))) ⌝ }
 {

@@ -14,7 +14,9 @@ ghost use Rattle.command.specs.Inner.{keptOf, transferOfKept};
 
 // How a packet with no fault is accepted: its data are held, its write is carried out, or it is a read.
 pub const HOLDS: u16 = 1;
+
 pub const WRITES: u16 = 2;
+
 pub const READS: u16 = 3;
 
 // What says that no byte is wrong.

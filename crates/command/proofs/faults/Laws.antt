@@ -2,7 +2,7 @@
 use Prim.Native.Nat.{ℕ, _+_, _<_, _≤_}
 use mathlib.Core.Path.{_≡_, refl, ap, sym, subst, _∙_}
 use mathlib.Core.Logic.{_↔_, _⊎_, inl, inr, ⊎-elim}
-use mathlib.Core.Bool.{Bool, true, false, not, _&&_, _||_, or-true}
+use mathlib.Core.Bool.{Bool, true, false, not, _&&_, _||_, or-true, and-true, and-assoc}
 use mathlib.Core.List.{List, [], _∷_, List·Memᴰ, List·Memᴰ·head, List·Memᴰ·tail, List·Memᴰ·not-nil, List·Memᴰ·cases-cons}
 use native.Mathlib.Omega.{arith}
 use lib.Dec.{eqb, ltb}
@@ -12,7 +12,8 @@ use Rattle.packet.specs.Packet.{hostWrite, hostRead, whole, beginning, intermed
 use Rattle.packet.proofs.Cases.{bool-cases, and-left, and-right, and-both, or-left, or-right, or-cases, or-that, never}
 use Rattle.command.specs.Table.{cmd1For, cmd2For, commandOf, same, readable}
 use Rattle.command.specs.Transfer.{Transfer, Closed, Opened, isOpen, held, openFor}
-use Rattle.command.specs.Inner.{faultsOf}
+use Rattle.command.specs.Inner.{faultsOf, anyCode}
+use Rattle.command.specs.Player.{isNil}
 use Rattle.command.specs.Faults.{Arrived, continues, wrongCommand, tooLong, wrongOrder, faults, anyFault, listIf, codesOf}
 use Rattle.command.specs.Demand1.{Names, Continues, Starts, FirstFault, WrongChecksum, UnknownType, UnknownCommand, ColourRead, LongPayload, LongTransfer, UnknownFlags, NoWriteInParts, NoneOpen, OpenForAnother, StillOpen, Ascending}
 use Rattle.command.specs.declared.table.Command.{Command}
@@ -133,6 +134,21 @@ held-listed k n (Code0B h) =
     (listed-later (k .checksum) 9 11 _
     (listed-later (k .format) 10 11 _
     (listed-here (k .continuation) 11 [] h))))))))))
+
+-- There is one exactly where one of the codes holds.
+
+nil-if : (b : Bool) (n : ℕ) (l : List ℕ) → isNil (listIf b n l) ≡ (not b && isNil l)
+unfolding listIf
+nil-if true n l = refl
+nil-if false n l = refl
+
+not-or : (a b : Bool) → not (a || b) ≡ (not a && not b)
+not-or true b = refl
+not-or false b = refl
+
+pub any-code : (k : Codes) → isNil (codesOf k) ≡ not (anyCode k)
+unfolding codesOf
+any-code k = simp (nil-if, not-or, and-assoc, and-true)
 
 -- The tests of the first group are document 01's lines.
 

@@ -114,7 +114,7 @@ module _ (t : TransferState) (r : transferInRule t ≡ true) where
     pub open-is : isOpen (transferIn t buffer) ≡ isOpenIn t
     open-is = by-transfer (λ e. rw e) (λ c e k. rw (e, k))
 
-    open-for-is : (f : Found) → openFor f (transferIn t buffer) ≡ openForIn f t
+    pub open-for-is : (f : Found) → openFor f (transferIn t buffer) ≡ openForIn f t
     open-for-is Unknown = refl
     open-for-is (Known c) = by-transfer (λ e. rw e) (λ d e k. rw (e, k) (same-code c d k))
 

@@ -69,9 +69,9 @@ returns-2 c =
     rw e (
       ap (λ (i : ℕ). i + length b) k ∙ sym (length-append d b),
       c .store2 .ensures
-      ∙ ap (λ (x : List ℕ). sets x (h .held .result) b) (o .store .ensures ∙ ap (sets (now (s .args .joined)) 0) (held-bytes h))
-      ∙ ap (λ (i : ℕ). sets (sets (now (s .args .joined)) 0 d) i b) k
-      ∙ stored-both d b (now (s .args .joined)) (omega (arith, ap length e, s .pre .3)),
+          ∙ ap (λ (x : List ℕ). sets x (h .held .result) b) (o .store .ensures ∙ ap (sets (now (s .args .joined)) 0) (held-bytes h))
+          ∙ ap (λ (i : ℕ). sets (sets (now (s .args .joined)) 0 d) i b) k
+          ∙ stored-both d b (now (s .args .joined)) (omega (arith, ap length e, s .pre .3)),
     )
 
 pub keep-spec : {M : Type 1} → statement M
