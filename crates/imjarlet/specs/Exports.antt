@@ -16,6 +16,7 @@ use Rattle.command.specs.declared.table.Found.the-variants.{Known, Unknown}
 use Rattle.command.specs.Value.{valueFrom}
 use Rattle.command.specs.Endpoint as endpoint
 use Rattle.command.specs.Asking as asking
+use Rattle.command.specs.declared.ruling.Ruling.{Ruling}
 use Rattle.command.specs.declared.ruling.JudgementRecord.{JudgementRecord}
 use Rattle.command.specs.Encoder as encoding
 use Rattle.report.specs.Report as tuning
@@ -58,6 +59,10 @@ pub record Asks (after : asking.Judging) (refusal : ℕ) (judgement : JudgementR
   -- the number says the refusal
   pub says : refusalSaid refusal ≡ after .refusal
   pub leaves : judgement ≡ after .judgement
+
+-- the same whatever numbers stood where those of the judgement are put
+abbrev pub AsksWith : (Ruling → asking.Judging) → ℕ → (Ruling → JudgementRecord) → Type 0
+AsksWith after refusal judgement = (n : Ruling) → Asks (after n) refusal (judgement n)
 
 -- A call that carries out a judgement as `after` says: the refusal, the response's length, the controller and the output afterwards.
 pub record Carries (after : asking.Carrying) (refusal size : ℕ) (controller : Controller) (output : List ℕ) : Type 0 where

@@ -12,8 +12,7 @@ ghost use mathlib.Core.Bool.{cond};
 ghost use Rattle.command.specs.Asking.{refusalOf, outcomeOf, judgeCall, carryCall};
 ghost use Rattle.command.specs.Encoder.{refusalOf as refusalIn, lengthOf};
 ghost use Rattle.command.specs.Lent.{withoutHold, recordOf};
-ghost use Rattle.command.specs.declared.ruling.Ruling.{Ruling as RulingOf};
-ghost use Rattle.imjarlet.specs.Exports.{numberOf, Asks, Carries};
+ghost use Rattle.imjarlet.specs.Exports.{numberOf, Asks, AsksWith, Carries};
 
 // The numbers of a judgement, whether there is one, and the refusal's number.
 struct Ruled {
@@ -41,8 +40,8 @@ fn judge(
     packet: &[u8],
     joined: &mut [u8; HOLD],
 ) -> Ruled
-    ensures { λ s. ⌜ (n : RulingOf) → Asks (judgeCall (withoutHold settings registers (now (buffer .entry))) (now (packet .entry)) (recordOf n (now (joined .entry))))
-        (s .refusal) (recordOf (cond (s .judged) (s .ruling) n) (now (joined .exit))) ⌝ }
+    ensures { λ s. ⌜ AsksWith (λ n. judgeCall (withoutHold settings registers (now (buffer .entry))) (now (packet .entry)) (recordOf n (now (joined .entry))))
+        (s .refusal) (λ n. recordOf (cond (s .judged) (s .ruling) n) (now (joined .exit))) ⌝ }
 {
     let a = command::ask(settings, registers, buffer, packet, joined);
     let ruling = a.ruling;

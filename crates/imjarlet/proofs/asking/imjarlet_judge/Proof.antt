@@ -6,8 +6,7 @@ use Rattle.packet.proofs.Lending.{struct-held}
 use Rattle.packet.proofs.Lending.Asking.{Ask, asking, asks}
 use Rattle.command.specs.Asking.{judgeCall}
 use Rattle.command.specs.Lent.{controllerOf, withoutHold, recordOf}
-use Rattle.command.specs.declared.ruling.Ruling.{Ruling}
-use Rattle.imjarlet.specs.Exports.{Asks}
+use Rattle.imjarlet.specs.Exports.{Asks, AsksWith}
 use Rattle.command.proofs.settings.Settings as P
 use Rattle.command.proofs.settings.Settings.Laws as P′
 use Rattle.command.proofs.controller.Registers as R
@@ -71,8 +70,8 @@ the-call =
             are = owed S.the-type S′.the-laws;
           };
       Said =
-          λ p r buffer packet joined s after. (n : Ruling) → Asks (judgeCall (withoutHold p r buffer) packet (recordOf n joined)) (s .refusal)
-          (recordOf (cond (s .judged) (s .ruling) n) after);
+          λ p r buffer packet joined s after. AsksWith (λ n. judgeCall (withoutHold p r buffer) packet (recordOf n joined)) (s .refusal)
+          (λ n. recordOf (cond (s .judged) (s .ruling) n) after);
       Left = λ c packet j r after. Asks (judgeCall c packet j) r after × (c ≡ c);
       follows = λ c packet j s after said. (rw (hold-unseen c packet j) at (said (j .ruling)), refl);
     }
