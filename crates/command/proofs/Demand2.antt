@@ -67,7 +67,7 @@ first-of-two : (q p : List ℕ) (qs ps : List (List ℕ)) → q ∷ qs ≡ p ∷
 first-of-two q p qs ps f = cc
 
 -- bytes of which all are one packet are a whole packet
-is-packet : (p : List ℕ) → packets p ≡ p ∷ [] → IsPacket p
+pub is-packet : (p : List ℕ) → packets p ≡ p ∷ [] → IsPacket p
 is-packet p e =
     bool-cases (hasPacket p)
     (λ h.

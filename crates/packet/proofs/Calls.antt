@@ -66,21 +66,25 @@ module _ {S E : Type 0} (call : S → List ℕ → Call S E) (I : S → Type 0) 
       callsOn call (suc (length (a ++ b))) s (a ++ b)
       ≡ followed (callsOn call n s a) (callsOn call (suc (length b)) (callsOn call n s a .state) b)
 
-  -- a first call that completes no packet: the second piece goes on where it stopped
-  join-none : (n : ℕ) (s : S) (a b : List ℕ) → I s → call s a .gives ≡ none → joins (suc n) s a b
-  unfolding callsOn joins
-  join-none n s a b i g =
+  -- a first call that completes no packet: what comes behind goes on where it stopped
+  pub goes-on : (s : S) (a b : List ℕ) → I s → call s a .gives ≡ none → servedOne call s (a ++ b) ≡ servedOne call (call s a .state) b
+  unfolding servedOne callsOn
+  goes-on s a b i g =
       let s′ : S = call s a .state in
       let t : Call S E = call s′ b in
       let i′ : I (call s a .state) = laws .keeps s a i in
-      let one : callsOn call (suc n) s a ≡ record { given = []; state = call s a .state } =
-      ap (λ o. andThen o (call s a .state) (callsOn call n (call s a .state) (drop (call s a .taken) a))) g in
       let more : callsOn call (length (a ++ b)) (t .state) (drop (length a + t .taken) (a ++ b)) ≡ callsOn call (length (a ++ b)) (t .state) (drop (t .taken) b) =
       ap (callsOn call (length (a ++ b)) (t .state)) (drop-append-add a b (t .taken)) in
       ap (λ (c : Call S E). first c (callsOn call (length (a ++ b)) (c .state) (drop (c .taken) (a ++ b)))) (laws .cut s a b i g)
       ∙ ap (first t) more
       ∙ same-calls (suc (length (a ++ b))) (suc (length b)) s′ b i′ (omega (arith, length-append a b)) (omega arith)
-      ∙ sym (ap (λ (r : Served S E). followed r (callsOn call (suc (length b)) (r .state) b)) one)
+
+  join-none : (n : ℕ) (s : S) (a b : List ℕ) → I s → call s a .gives ≡ none → joins (suc n) s a b
+  unfolding servedOne callsOn joins
+  join-none n s a b i g =
+      let one : callsOn call (suc n) s a ≡ record { given = []; state = call s a .state } =
+      ap (λ o. andThen o (call s a .state) (callsOn call n (call s a .state) (drop (call s a .taken) a))) g in
+      goes-on s a b i g ∙ sym (ap (λ (r : Served S E). followed r (callsOn call (suc (length b)) (r .state) b)) one)
 
   join-calls : (n : ℕ) (s : S) (a b : List ℕ) → I s → length a < n → joins n s a b
   unfolding callsOn joins

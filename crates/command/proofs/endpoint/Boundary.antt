@@ -22,10 +22,10 @@ use Rattle.command.specs.Table.{commandOf}
 use Rattle.command.specs.Transfer.{Transfer, held}
 use Rattle.command.specs.Faults.{Arrived, arrived, faults, anyFault}
 use Rattle.command.specs.Judgement.{judgeAs, judge}
-use Rattle.command.specs.Carry.{settingsAfter, transferAfter}
+use Rattle.command.specs.Carry.{settingsAfter}
 use Rattle.command.specs.Response.{response, wrongIn}
 use Rattle.command.specs.Player.{State, judged, next, judgements, responses, after}
-use Rattle.command.specs.Controller.{transferOf, heldIn, stateOf, receiverIn}
+use Rattle.command.specs.Controller.{transferOf, stateOf, receiverIn}
 use Rattle.command.specs.Endpoint.{arrivedIn, judgedIn, responseIn, carriedOut, After, waiting, receiveCall}
 use Rattle.command.specs.Sending.{Reply, serves, Ready, Sending, repliesTo, sentTo, wrongTo, Boundary}
 use Rattle.command.specs.Demand2.{Follows}
@@ -33,10 +33,10 @@ use Rattle.command.specs.declared.table.Found.{Found}
 use Rattle.command.specs.declared.table.Found.the-variants.{Known, Unknown}
 use Rattle.command.specs.declared.judgement.Judgement.{Judgement}
 use Rattle.command.specs.declared.controller.Controller.{Controller}
-use Rattle.command.proofs.transfer.Laws.{fits-hold, held-length}
-use Rattle.command.proofs.carry.Laws.{Bounded, bounded, stored-part, carried-transfer}
+use Rattle.command.proofs.transfer.Laws.{fits-hold}
+use Rattle.command.proofs.carry.Laws.{stored-part, carried-transfer}
 use Rattle.command.proofs.controller.Laws.{rule-parts}
-use Rattle.command.proofs.endpoint.Laws.{call-is, stays-in-rule, endpoint-streams, at-once}
+use Rattle.command.proofs.endpoint.Laws.{call-is, has-room, stays-in-rule, endpoint-streams, at-once}
 
 -- a packet with another payload
 abbrev withBody : Arrived → List ℕ → Arrived
@@ -52,6 +52,17 @@ judge-body mode t p b h = go (commandOf (p .cmd1) (p .cmd2))
     go Unknown = unfold judgeAs faults in refl
     go (Known c) = unfold judgeAs faults in bool-cases (anyFault (faults (Known c) t p)) (λ e. rw e) (λ e. rw (h (fits-hold (Known c) t p e)))
 
+-- The judgement of a packet, carried out with its payload, leaves the state that document 01 says, whatever receiver the head has then. A payload that is
+-- too long does not matter.
+pub carried-state : (c : Controller) → Ready c → (p : List ℕ) → IsPacket p → (r : Receiver) (body : List ℕ) → (payloadLength p ≤ 1024 → body ≡ payload p)
+    → stateOf (carriedOut c r body (judged (stateOf c) p)) ≡ next (stateOf c) p
+unfolding next judged
+carried-state c k p i r body e =
+    let q = rule-parts (c .settings) (c .registers) (k .rule) in
+    ap (λ (t : Transfer). record { settings = settingsAfter (c .settings) (judged (stateOf c) p); transfer = t })
+    (carried-transfer (transferOf (c .registers)) (c .buffer) body (arrived p) (judged (stateOf c) p) (q .transfer) (k .buffer)
+    (payload-length p (i .exact)) e (has-room c (arrived p) k))
+
 -- One whole packet, from a packet boundary.
 module _ (c : Controller) (k : Ready c) (p : List ℕ) (i : IsPacket p) where
   abbrev complete : Received
@@ -63,9 +74,6 @@ module _ (c : Controller) (k : Ready c) (p : List ℕ) (i : IsPacket p) where
 
   whole-body : payloadLength p ≤ 1024 → body ≡ payload p
   whole-body l = rw (zero-add (payloadLength p)) at (stored-part (c .hold) (payload p) 0 (payloadLength p) (payload-length p (i .exact)) (omega (arith, k .hold)))
-
-  held-same : length (held (stateOf c .transfer)) ≡ heldIn (transferOf (c .registers))
-  held-same = held-length (transferOf (c .registers)) (rule-parts (c .settings) (c .registers) (k .rule) .transfer) (c .buffer) (k .buffer)
 
   -- it is judged as document 01 judges its bytes
   seen : arrivedIn complete ≡ withBody (arrived p) body
@@ -90,23 +98,10 @@ module _ (c : Controller) (k : Ready c) (p : List ℕ) (i : IsPacket p) where
   unfolding responseIn response
   response-same = ap₂ (response (c .settings)) seen judged-same
 
-  -- and leaves the state that document 01 says
-  carried-state : (j : Judgement) → Bounded (heldIn (transferOf (c .registers)) + payloadLength p) j → stateOf (carriedOut c (complete .receiver) (arrivedIn complete .body) j) ≡ record {
-    settings = settingsAfter (c .settings) j;
-    transfer = transferAfter (stateOf c .transfer) (arrived p) j;
-  }
-  carried-state j b =
-      ap (λ (t : Transfer). record { settings = settingsAfter (c .settings) j; transfer = t })
-      (carried-transfer (transferOf (c .registers)) (c .buffer) (arrivedIn complete .body) (arrived p) j (rule-parts (c .settings) (c .registers) (k .rule) .transfer) (k .buffer)
-      (payload-length p (i .exact)) (λ l. ap (λ (q : Arrived). q .body) seen ∙ whole-body l) b)
-
   state-same : stateOf (carriedOut c (complete .receiver) (arrivedIn complete .body) (judgedIn c complete)) ≡ next (stateOf c) p
-  unfolding next judged
   state-same =
       ap (λ (j : Judgement). stateOf (carriedOut c (complete .receiver) (arrivedIn complete .body) j)) judged-same
-      ∙ carried-state (judged (stateOf c) p)
-      (subst (λ (n : ℕ). Bounded (n + payloadLength p) (judged (stateOf c) p)) held-same
-      (bounded (c .settings .mode) (stateOf c .transfer) (arrived p)))
+      ∙ carried-state c k p i (complete .receiver) (arrivedIn complete .body) (λ l. ap (λ (q : Arrived). q .body) seen ∙ whole-body l)
 
 -- what a packet draws
 abbrev pub drawn : Controller → List ℕ → List ℕ
@@ -139,7 +134,7 @@ module _ (out : List ℕ) (l : 64 ≤ length out) (c : Controller) (k : Ready c)
   unfolding receiverWaiting
   takes-part b h = call-is c b out k l (too-few 0 (receiverIn c) q b h)
 
-between-of : {c : Controller} → Boundary c → Between (receiverIn c)
+pub between-of : {c : Controller} → Boundary c → Between (receiverIn c)
 between-of q = record { header = q .ready .header; received = q .received }
 
 -- What packets give one after the other, and all that is followed of a stream: Follows, and the byte that is wrong beside each response.

@@ -17,16 +17,18 @@ use Rattle.packet.proofs.Cases.{lt-cases, cond-cases}
 use Rattle.packet.proofs.Calls.{Streaming, shifted, keeps-calls, AnyOutput, at-once as sent-at-once}
 use Rattle.packet.proofs.ReceiverLaws.{with-nil, hold-length, missing-least, after, cut, behind, waits, completes}
 use Rattle.command.specs.Transfer.{held}
+use Rattle.command.specs.Faults.{Arrived}
 use Rattle.command.specs.Judgement.{judge}
 use Rattle.command.specs.Carry.{settingsAfter}
-use Rattle.command.specs.Controller.{transferOf, heldIn, transferIn, receiverIn, inRule}
+use Rattle.command.specs.Controller.{transferOf, heldIn, stateOf, receiverIn, inRule}
 use Rattle.command.specs.Endpoint.{takenBy, arrivedIn, judgedIn, responseIn, registersOf, carriedOut, After, waiting, answered, receiveCall}
 use Rattle.command.specs.Lent.{isAnswered}
 use Rattle.command.specs.Sending.{Reply, shown, serves, Sending, repliesTo, sentTo, Ready}
+use Rattle.command.specs.declared.judgement.Judgement.{Judgement}
 use Rattle.command.specs.declared.controller.Controller.{Controller}
 use Rattle.command.proofs.rules.Laws.{kept-by, in-rule-of}
 use Rattle.command.proofs.transfer.Laws.{held-length}
-use Rattle.command.proofs.judgement.Laws.{sound}
+use Rattle.command.proofs.judgement.Laws.{Sound, sound}
 use Rattle.command.proofs.carry.Laws.{Bounded, bounded, transfer-kept, buffer-kept}
 use Rattle.command.proofs.controller.Laws.{rule-parts, rule-whole}
 use Rattle.command.proofs.player.Laws.{kept-judgement}
@@ -64,33 +66,48 @@ module _ (c : Controller) (b out : List ℕ) (k : Ready c) (l : 64 ≤ length ou
   unfolding completed
   call-answers h = call-is (completes 0 (receiverIn c) b h)
 
--- a judgement that is carried out keeps the head in rule
-ready-carried : (c : Controller) (t : Received) → Ready c → length (t .receiver .header) ≡ 6 → length (t .receiver .hold) ≡ 1024 → t .receiver .received ≡ 0
-    → Ready (carriedOut c (t .receiver) (arrivedIn t .body) (judgedIn c t))
-unfolding judgedIn
-ready-carried c t k h d z =
-    let r = rule-parts (c .settings) (c .registers) (k .rule) in
-    let a = transferIn (transferOf (c .registers)) (c .buffer) in
-    let q = arrivedIn t in
-    let j = judge (c .settings .mode) (transferIn (transferOf (c .registers)) (c .buffer)) (arrivedIn t) in
-    let n : length (held a) ≡ heldIn (transferOf (c .registers)) = held-length (transferOf (c .registers)) (r .transfer) (c .buffer) (k .buffer) in
-    let b : Bounded (heldIn (transferOf (c .registers)) + payloadLength (t .receiver .header)) j = rw n at (bounded (c .settings .mode) a q) in
+-- the data that a head holds are as many as its number says
+pub held-same : (c : Controller) → Ready c → length (held (stateOf c .transfer)) ≡ heldIn (transferOf (c .registers))
+held-same c k = held-length (transferOf (c .registers)) (rule-parts (c .settings) (c .registers) (k .rule) .transfer) (c .buffer) (k .buffer)
+
+-- there is room for what a packet adds to them
+pub has-room : (c : Controller) (p : Arrived) → Ready c
+    → Bounded (heldIn (transferOf (c .registers)) + p .size) (judge (c .settings .mode) (stateOf c .transfer) p)
+has-room c p k =
+    subst (λ (n : ℕ). Bounded (n + p .size) (judge (c .settings .mode) (stateOf c .transfer) p)) (held-same c k)
+    (bounded (c .settings .mode) (stateOf c .transfer) p)
+
+-- a judgement that is carried out keeps the head in rule, whatever receiver it has then: its write may be carried out, and there is room for what it adds
+pub ready-carried : (c : Controller) (r : Receiver) (body : List ℕ) (n : ℕ) (j : Judgement) → Ready c
+    → length (r .header) ≡ 6 → length (r .hold) ≡ 1024 → packetInRule (r .header) (r .received) ≡ true
+    → Sound (c .settings .mode) j → length body ≤ n → Bounded (heldIn (transferOf (c .registers)) + n) j
+    → Ready (carriedOut c r body j)
+ready-carried c r body n j k h d p s l b =
+    let q = rule-parts (c .settings) (c .registers) (k .rule) in
     record {
       rule =
           rule-whole _ _
           (record {
-            settings =
-                in-rule-of (settingsAfter (c .settings) j)
-                (kept-judgement (c .settings) j (kept-by (c .settings) (r .settings)) (sound (c .settings .mode) a q));
-            transfer =
-                transfer-kept (transferOf (c .registers)) (q .body) (payloadLength (t .receiver .header)) j
-                (omega (arith, length-take (payloadLength (t .receiver .header)) (t .receiver .hold))) (r .transfer) b;
-            packet = unfold packetInRule in lt-ltb (t .receiver .received) (7 + payloadLength (t .receiver .header)) (omega arith);
+            settings = in-rule-of (settingsAfter (c .settings) j) (kept-judgement (c .settings) j (kept-by (c .settings) (q .settings)) s);
+            transfer = transfer-kept (transferOf (c .registers)) body n j l (q .transfer) b;
+            packet = p;
           });
       header = h;
-      buffer = buffer-kept (transferOf (c .registers)) (c .buffer) (q .body) j ∙ k .buffer;
+      buffer = buffer-kept (transferOf (c .registers)) (c .buffer) body j ∙ k .buffer;
       hold = d;
     }
+
+-- so does that of a complete packet
+ready-answered : (c : Controller) (t : Received) → Ready c → length (t .receiver .header) ≡ 6 → length (t .receiver .hold) ≡ 1024 → t .receiver .received ≡ 0
+    → Ready (carriedOut c (t .receiver) (arrivedIn t .body) (judgedIn c t))
+unfolding judgedIn packetInRule
+ready-answered c t k h d z =
+    let n = payloadLength (t .receiver .header) in
+    ready-carried c (t .receiver) (arrivedIn t .body) n (judgedIn c t) k h d
+    (lt-ltb (t .receiver .received) (7 + n) (omega arith))
+    (sound (c .settings .mode) (stateOf c .transfer) (arrivedIn t))
+    (omega (arith, length-take n (t .receiver .hold)))
+    (has-room c (arrivedIn t) k)
 
 -- what is received of a packet that is not complete is short of its size
 few : (r : Receiver) (b : List ℕ) → packetInRule (r .header) (r .received) ≡ true → length b < missing r b
@@ -135,7 +152,7 @@ stays-in-rule c b out k l =
     (λ h.
     let a = take (missing (receiverIn c) b - 1) b in
     rw (call-answers c b out k l h)
-    (ready-carried c (completed 0 (receiverIn c) b (missing (receiverIn c) b)) k
+    (ready-answered c (completed 0 (receiverIn c) b (missing (receiverIn c) b)) k
     (length-sets (c .registers .header) (c .registers .received) a ∙ k .header) (hold-length 0 (receiverIn c) a ∙ k .hold) refl))
 
 -- The receive call over a stream.

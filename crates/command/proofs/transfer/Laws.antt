@@ -8,9 +8,9 @@ use lib.Dec.{eqb, ltb, leb}
 use lib.ListN.{length, take}
 use lib.Seq.{length-take-le}
 use borrow.Author.Tests.{eq-eqb, ne-eqb, eqb-true, eqb-false, ltb-false, leb-true, not-false}
-use Rattle.packet.specs.Packet.{hostWrite, whole, beginning, intermediate, last}
+use Rattle.packet.specs.Packet.{hostWrite, hostRead, whole, beginning, intermediate, last}
 use Rattle.packet.proofs.Cases.{bool-cases, and-left, and-right, or-left, or-right}
-use Rattle.command.specs.Table.{cmd1For, cmd2For, hasCode, commandOf, isKnown, same}
+use Rattle.command.specs.Table.{cmd1For, cmd2For, hasCode, commandOf, isKnown, same, readable}
 use Rattle.command.specs.Transfer.{Transfer, Closed, Opened, isOpen, held, openFor}
 use Rattle.command.specs.Faults.{Arrived, continues, wrongCommand, tooLong, wrongOrder, faults, anyFault}
 use Rattle.command.specs.Controller.{heldIn, transferIn, transferInRule}
@@ -42,11 +42,21 @@ faultless f t p h =
     none-of-four (wrongCommand f (p .type)) (tooLong (isOpen t) (length (held t)) (p .flags) (p .size)) (not (p .right)) (wrongOrder (isOpen t) (openFor f t) (p .type) (p .flags)) h in
     record { command = n .0; memory = n .1; checksum = not-false (p .right) (n .2); continuation = n .3 }
 
--- while a transfer is open, flags that are in order continue it
-continues-open : (o : Bool) (type flags : ℕ) → wrongOrder true o type flags ≡ false → continues flags ≡ true
+-- flags that are in order, by the four parts of the rule
+order-parts : (opened ours : Bool) (type flags : ℕ) → wrongOrder opened ours type flags ≡ false
+    → (ltb last flags ≡ false)
+    × ((not (eqb type hostWrite) && not (eqb flags whole)) ≡ false)
+    × ((continues flags && not ours) ≡ false)
+    × (((eqb flags whole || eqb flags beginning) && opened) ≡ false)
 unfolding wrongOrder
+order-parts opened ours type flags h =
+    none-of-four (ltb last flags) (not (eqb type hostWrite) && not (eqb flags whole)) (continues flags && not ours)
+    ((eqb flags whole || eqb flags beginning) && opened) h
+
+-- while a transfer is open, they continue it
+continues-open : (o : Bool) (type flags : ℕ) → wrongOrder true o type flags ≡ false → continues flags ≡ true
 continues-open o type flags h =
-    let n = none-of-four (ltb 3 flags) (not (eqb type hostWrite) && not (eqb flags whole)) (continues flags && not o) ((eqb flags whole || eqb flags beginning) && true) h in
+    let n = order-parts true o type flags h in
     let w : (eqb flags whole || eqb flags beginning) ≡ false = sym (and-true (eqb flags whole || eqb flags beginning)) ∙ n .3 in
     bool-cases (eqb flags intermediate)
     (λ e. rw e)
@@ -54,11 +64,36 @@ continues-open o type flags h =
     (eq-eqb flags last
     (omega (
       arith,
-      ltb-false 3 flags (n .0),
+      ltb-false last flags (n .0),
       eqb-false flags whole (or-left (eqb flags whole) (eqb flags beginning) w),
       eqb-false flags beginning (or-right (eqb flags whole) (eqb flags beginning) w),
       eqb-false flags intermediate e,
     ))))
+
+-- and are of its own command
+own-command : (o : Bool) (type flags : ℕ) → wrongOrder true o type flags ≡ false → o ≡ true
+own-command o type flags h =
+    not-false o (sym (ap (λ (b : Bool). b && not o) (continues-open o type flags h)) ∙ order-parts true o type flags h .2)
+
+pub in-order : (c : Command) (t : Transfer) (p : Arrived) → anyFault (faults (Known c) t p) ≡ false → (not (isOpen t) || openFor (Known c) t) ≡ true
+in-order c t p h = go t (faultless (Known c) t p h .continuation)
+  where
+    go : (t : Transfer) → wrongOrder (isOpen t) (openFor (Known c) t) (p .type) (p .flags) ≡ false → (not (isOpen t) || openFor (Known c) t) ≡ true
+    go Closed o = refl
+    go (Opened d x) o = own-command (same c d) (p .type) (p .flags) o
+
+-- a read comes while no transfer is open, and its command can be read
+pub reads-alone : (c : Command) (t : Transfer) (p : Arrived) → anyFault (faults (Known c) t p) ≡ false → eqb (p .type) hostRead ≡ true
+    → (isOpen t ≡ false) × (readable c ≡ true)
+unfolding wrongCommand
+reads-alone c t p h r =
+    let k = faultless (Known c) t p h in
+    let e : p .type ≡ hostRead = eqb-true (p .type) hostRead r in
+    let n = order-parts (isOpen t) (openFor (Known c) t) hostRead (p .flags) (rw e at (k .continuation)) in
+    let w : wrongCommand (Known c) hostRead ≡ false = rw e at (k .command) in (
+      sym (ap (λ (b : Bool). (b || eqb (p .flags) beginning) && isOpen t) (not-false (eqb (p .flags) whole) (n .1))) ∙ n .3,
+      not-false (readable c) w,
+    )
 
 -- the held bytes and the payload fit the hold
 pub fits-hold : (f : Found) (t : Transfer) (p : Arrived) → anyFault (faults f t p) ≡ false → length (held t) + p .size ≤ 1024
