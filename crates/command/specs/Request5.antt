@@ -91,31 +91,31 @@ pub record Request5 : Type 0 where
   -- the codes of a record are the bits of its number
   pub bits : (m n : ℕ) → List·Memᴰ n (codesOf (codesTold m)) ↔ ((1 ≤ n) × (n ≤ 11) × (hasBit m n ≡ true))
   -- "it keeps the mode, open command and held data it was made under"
-  pub keeps : (c : Controller) (p : List ℕ) (lent : JudgementRecord) → Ready c → Made lent → OnePacket p → itemsKept (judgementOf c p lent) ≡ itemsOf c
+  pub keeps : (c : Controller) (p : List ℕ) (lent : JudgementRecord) → Ready c → OnePacket p → itemsKept (judgementOf c p lent) ≡ itemsOf c
   -- judging twice gives the same
-  pub twice : (c : Controller) (p : List ℕ) (lent : JudgementRecord) → Ready c → Made lent → OnePacket p
+  pub twice : (c : Controller) (p : List ℕ) (lent : JudgementRecord) → Ready c → OnePacket p
       → judgeCall c p (judgementOf c p lent) ≡ judgeCall c p lent
   -- The call that carries out. "Judging then carrying out must equal document 01's rules on every controller and complete packet, and so must carrying out on any
   -- other controller that 4 lets pass": on the controller d what was judged on c. A read answers the values of d.
-  pub follows : (c d : Controller) (p : List ℕ) (lent : JudgementRecord) (out : List ℕ) → Ready c → Ready d → Made lent → OnePacket p → 64 ≤ length out
+  pub follows : (c d : Controller) (p : List ℕ) (lent : JudgementRecord) (out : List ℕ) → Ready c → Ready d → OnePacket p → 64 ≤ length out
       → itemsOf d ≡ itemsOf c
       → Obeys d p out (carryCall d (judgementOf c p lent) out)
   -- "the receive call uses both": a call that is handed a packet at a packet boundary does what judging and carrying out does,
-  pub receives : (c : Controller) (p : List ℕ) (lent : JudgementRecord) (out : List ℕ) (n : ℕ) → Boundary c → Made lent → OnePacket p
+  pub receives : (c : Controller) (p : List ℕ) (lent : JudgementRecord) (out : List ℕ) (n : ℕ) → Boundary c → OnePacket p
       → let r = carryCall c (judgementOf c p lent) out in
       r .answer ≡ Writes n
       → (receiveCall c p out .answer ≡ Answers (length p) n)
       × (receiveCall c p out .output ≡ r .output)
       × (stateOf (receiveCall c p out .controller) ≡ stateOf (r .controller))
   -- and so however its bytes were cut
-  pub cut : (c : Controller) (p : List ℕ) (s : Sending p) (lent : JudgementRecord) (out : List ℕ) (n : ℕ) → Boundary c → Made lent → OnePacket p
+  pub cut : (c : Controller) (p : List ℕ) (s : Sending p) (lent : JudgementRecord) (out : List ℕ) (n : ℕ) → Boundary c → OnePacket p
       → let r = carryCall c (judgementOf c p lent) out in
       r .answer ≡ Writes n → (sentTo c s .given ≡ take n (r .output) ∷ []) × (stateOf (sentTo c s .state) ≡ stateOf (r .controller))
   -- "neither touches a half-received packet": judging hands no controller back, and whatever is carried out leaves header, sum, count and payload.
   pub half : (c : Controller) (j : JudgementRecord) (out : List ℕ) → receiverIn (carryCall c j out .controller) ≡ receiverIn c
   -- Over a run: the bytes a are received, something is carried out, and the bytes b are received. The packet that was half received then is judged on all its bytes,
   -- and on the state as it is after that.
-  pub run : (c : Controller) (a : List ℕ) (s : Sending a) (j : JudgementRecord) (out b : List ℕ) (t : Sending b) → Boundary c → Made j
+  pub run : (c : Controller) (a : List ℕ) (s : Sending a) (j : JudgementRecord) (out b : List ℕ) (t : Sending b) → Boundary c
       → let d = carryCall (sentTo c s .state) j out .controller in
       (sentTo d t .given ≡ responses (stateOf d) (packets (rest a ++ b))) × (stateOf (sentTo d t .state) ≡ after (stateOf d) (packets (rest a ++ b)))
   -- Its refusals, in their order. 1 exactly when the output is too short,
@@ -141,4 +141,4 @@ pub record Request5 : Type 0 where
   pub coded : (c : Controller) (j : JudgementRecord) (out : List ℕ) → Ready c → 64 ≤ length out → (Uncoded j → ⊥) → itemsOf c ≡ itemsKept j
       → SendsCodes c j out (carryCall c j out)
   -- and a controller in rule stays so, whatever judgement is handed in
-  pub stays : (c : Controller) (j : JudgementRecord) (out : List ℕ) → Ready c → Made j → Ready (carryCall c j out .controller)
+  pub stays : (c : Controller) (j : JudgementRecord) (out : List ℕ) → Ready c → Ready (carryCall c j out .controller)

@@ -30,7 +30,7 @@ use Rattle.command.specs.Encoder.{Writes}
 use Rattle.command.specs.Sending.{Sending, sentTo, Ready, Boundary}
 use Rattle.command.specs.Ruling.{maskOf, codesTold, maskIn, byteTold, dataFor, noByte, rulingFor, openKept, joinedIn, broughtIn, acceptedAs, meant, keptInRule, joinedInRule, inOrder, writable, asksOnly, acceptable, drawable, uncoded, forged, Items, itemsIn, itemsOf, itemsKept, sameCommand, sameBytes, sameItems}
 use Rattle.command.specs.Asking.{Judging, onePacket, judgedAs, judgeCall, Carrying, refused, responseFor, carries, carryCall}
-use Rattle.command.specs.Request5.{OnePacket, Made, judgementOf, Obeys}
+use Rattle.command.specs.Request5.{OnePacket, judgementOf, Obeys}
 use Rattle.command.specs.declared.table.Command.{Command}
 use Rattle.command.specs.declared.table.Command.the-variants.{DisplayMode}
 use Rattle.command.specs.declared.table.Found.{Found}
@@ -280,17 +280,14 @@ judging-says c p lent k o =
       ap (λ (r : Judging). r .judgement .ruling .wrong) e,
     )
 
-pub judging-keeps : (c : Controller) (p : List ℕ) (lent : JudgementRecord) → Ready c → Made lent → OnePacket p → itemsKept (judgementOf c p lent) ≡ itemsOf c
-judging-keeps c p lent k _ o = keeps-items c p lent k o
-
 -- bytes that are written twice
 written-twice : (b out : List ℕ) → written b (written b out) ≡ written b out
 unfolding written
 written-twice b out = ap (λ (x : List ℕ). b ++ x) (drop-at b (drop (length b) out) (length b) refl)
 
-pub judging-twice : (c : Controller) (p : List ℕ) (lent : JudgementRecord) → Ready c → Made lent → OnePacket p
+pub judging-twice : (c : Controller) (p : List ℕ) (lent : JudgementRecord) → Ready c → OnePacket p
     → judgeCall c p (judgementOf c p lent) ≡ judgeCall c p lent
-judging-twice c p lent k _ o =
+judging-twice c p lent k o =
     let j = judged (stateOf c) p in
     let b = dataFor (held (stateOf c .transfer)) (payload p) j in
     judge-is c p (judgementOf c p lent) k o
@@ -355,10 +352,10 @@ module _ (c d : Controller) (p : List ℕ) (lent : JudgementRecord) (k : Ready c
         ready = rule-stays d given out l;
       }
 
-pub carrying-follows : (c d : Controller) (p : List ℕ) (lent : JudgementRecord) (out : List ℕ) → Ready c → Ready d → Made lent → OnePacket p → 64 ≤ length out
+pub carrying-follows : (c d : Controller) (p : List ℕ) (lent : JudgementRecord) (out : List ℕ) → Ready c → Ready d → OnePacket p → 64 ≤ length out
     → itemsOf d ≡ itemsOf c
     → Obeys d p out (carryCall d (judgementOf c p lent) out)
-carrying-follows c d p lent out k l _ o h e = obeys c d p lent k l o e out h
+carrying-follows c d p lent out k l o h e = obeys c d p lent k l o e out h
 
 -- The receive call does what judging and carrying out does.
 
@@ -398,22 +395,22 @@ module _ (c : Controller) (p : List ℕ) (lent : JudgementRecord) (out : List �
     unfolding written
     output-is = ap (take n) (obeyed .output) ∙ take-at (drawn c p) (drop (length (drawn c p)) out) n count-is
 
-pub receive-obeys : (c : Controller) (p : List ℕ) (lent : JudgementRecord) (out : List ℕ) (n : ℕ) → Boundary c → Made lent → OnePacket p
+pub receive-obeys : (c : Controller) (p : List ℕ) (lent : JudgementRecord) (out : List ℕ) (n : ℕ) → Boundary c → OnePacket p
     → let r = carryCall c (judgementOf c p lent) out in
     r .answer ≡ Writes n
     → (receiveCall c p out .answer ≡ Answers (length p) n)
     × (receiveCall c p out .output ≡ r .output)
     × (stateOf (receiveCall c p out .controller) ≡ stateOf (r .controller))
-receive-obeys c p lent out n q _ o w =
+receive-obeys c p lent out n q o w =
     let b = obeyed c p lent out n q o w in
     let t = takes c p lent out n q o w in
     (t .answer ∙ ap (Answers (length p)) (count-is c p lent out n q o w), t .output ∙ sym (b .output), t .state ∙ sym (b .state))
 
-pub cut-obeys : (c : Controller) (p : List ℕ) (s : Sending p) (lent : JudgementRecord) (out : List ℕ) (n : ℕ) → Boundary c → Made lent → OnePacket p
+pub cut-obeys : (c : Controller) (p : List ℕ) (s : Sending p) (lent : JudgementRecord) (out : List ℕ) (n : ℕ) → Boundary c → OnePacket p
     → let r = carryCall c (judgementOf c p lent) out in
     r .answer ≡ Writes n → (sentTo c s .given ≡ take n (r .output) ∷ []) × (stateOf (sentTo c s .state) ≡ stateOf (r .controller))
 unfolding responses after
-cut-obeys c p s lent out n q _ o w =
+cut-obeys c p s lent out n q o w =
     let f = follows-played c p s q in (
       f .given ∙ ap (responses (stateOf c)) o ∙ ap {B = List (List ℕ)} (λ (x : List ℕ). x ∷ []) (sym (output-is c p lent out n q o w)),
       f .ends ∙ ap (after (stateOf c)) o ∙ sym (obeyed c p lent out n q o w .state),

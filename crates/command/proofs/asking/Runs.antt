@@ -28,7 +28,6 @@ use Rattle.command.specs.Endpoint.{After, receiveCall}
 use Rattle.command.specs.Sending.{shown, serves, Sending, responsesIn, sentTo, Ready, Boundary}
 use Rattle.command.specs.Ruling.{Items, holds, writes, reads, noByte, transferKept, joinedIn, broughtIn, commandFor, acceptedAs, meant, keptInRule, joinedInRule, inOrder, writable, acceptable, drawable, forged, itemsOf, itemsKept, sameItems, sameCommand, sameBytes}
 use Rattle.command.specs.Asking.{Carrying, carries, carryCall}
-use Rattle.command.specs.Request5.{Made}
 use Rattle.command.specs.declared.table.Command.{Command}
 use Rattle.command.specs.declared.table.Found.{Found}
 use Rattle.command.specs.declared.table.Found.the-variants.{Known, Unknown}
@@ -145,9 +144,6 @@ rule-stays c j out k =
     (rule-parts (c .settings) (c .registers) (k .rule) .packet)
     (rw (e .0) (m .0)) (omega arith) (rw (e .1) (m .1)))
 
-pub ready-stays : (c : Controller) (j : JudgementRecord) (out : List ℕ) → Ready c → Made j → Ready (carryCall c j out .controller)
-ready-stays c j out k _ = rule-stays c j out k
-
 -- A head that has half a packet in its receiver, x.
 module _ (d : Controller) (k : Ready d) (base : Receiver) (z : base .received ≡ 0) (x : List ℕ) (e : receiverIn d ≡ with 0 base x) where
   -- the head before that
@@ -203,10 +199,10 @@ module _ (d : Controller) (k : Ready d) (base : Receiver) (z : base .received �
         )
 
 -- Over a run.
-pub run-follows : (c : Controller) (a : List ℕ) (s : Sending a) (j : JudgementRecord) (out b : List ℕ) (t : Sending b) → Boundary c → Made j
+pub run-follows : (c : Controller) (a : List ℕ) (s : Sending a) (j : JudgementRecord) (out b : List ℕ) (t : Sending b) → Boundary c
     → let d = carryCall (sentTo c s .state) j out .controller in
     (sentTo d t .given ≡ responses (stateOf d) (packets (rest a ++ b))) × (stateOf (sentTo d t .state) ≡ after (stateOf d) (packets (rest a ++ b)))
-run-follows c a s j out b t q _ =
+run-follows c a s j out b t q =
     let f = follows-played c a s q in
     let d₀ = sentTo c s .state in
     goes-played (carryCall d₀ j out .controller) (rule-stays d₀ j out (f .ready)) (f .base) (f .boundary) (rest a)
