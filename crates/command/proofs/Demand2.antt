@@ -57,7 +57,7 @@ cut-anyhow c b s t k = ap responsesIn (replies-anyhow c b s t k)
 
 -- One whole packet alone.
 
-alone : (p : List ℕ) → IsPacket p → (packets p ≡ p ∷ []) × (rest p ≡ [])
+pub alone : (p : List ℕ) → IsPacket p → (packets p ≡ p ∷ []) × (rest p ≡ [])
 alone p i = (
   sym (ap packets (append-nil p)) ∙ packets-cons p [] i ∙ ap {B = List (List ℕ)} (λ ps. p ∷ ps) packets-nil,
   sym (ap rest (append-nil p)) ∙ rest-cons p [] i ∙ rest-nil,

@@ -4,6 +4,7 @@ pub mod Demand1
 pub mod Demand2
 pub mod Request2
 pub mod Request4
+pub mod Request5
 pub use Rattle.command.proofs.table.Laws as TableLaws
 pub use Rattle.command.proofs.rules.Laws as RulesLaws
 pub use Rattle.command.proofs.judgement.Laws as JudgementLaws

@@ -52,7 +52,7 @@ settings-out s = (forth, back)
     back (RunsOutsideMode r m) =
         unfold settingsInRule blocked in rw (r, ne-eqb (s .mode) 4 m, and-false)
 
-controller-out : (c : Controller) → (inRule c ≡ false) ↔ OutOfRule c
+pub controller-out : (c : Controller) → (inRule c ≡ false) ↔ OutOfRule c
 controller-out c = (forth, back)
   where
     forth : inRule c ≡ false → OutOfRule c

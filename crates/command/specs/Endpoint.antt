@@ -14,7 +14,6 @@ use Rattle.command.specs.Judgement.{judge}
 use Rattle.command.specs.Carry.{settingsAfter}
 use Rattle.command.specs.Response.{response, wrongIn}
 use Rattle.command.specs.Controller.{transferOf, transferIn, receiverIn, packetIn, transferStateAfter, bufferAfter, inRule}
-use Rattle.command.specs.declared.settings.Settings.{Settings}
 use Rattle.command.specs.declared.transfer.TransferState.{TransferState}
 use Rattle.command.specs.declared.judgement.Judgement.{Judgement}
 use Rattle.command.specs.declared.controller.Registers.{Registers}

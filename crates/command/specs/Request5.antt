@@ -9,7 +9,7 @@ use mathlib.Core.Path.{_≡_}
 use mathlib.Core.Logic.{_↔_, _⊎_}
 use mathlib.Core.Bool.{true}
 use mathlib.Core.List.{List, [], _∷_, _++_, List·Memᴰ}
-use mathlib.Core.Option.{Option, none, some}
+use mathlib.Core.Option.{none, some}
 use lib.ListN.{length, take}
 use Rattle.packet.specs.Answer.{Answers}
 use Rattle.packet.specs.Number.{Bytes}
@@ -133,7 +133,7 @@ pub record Request5 : Type 0 where
   pub untouched : (c : Controller) (j : JudgementRecord) (out : List ℕ) (n : ℕ) → carryCall c j out .answer ≡ Refuses n
       → (n ≤ 4) × (carryCall c j out ≡ record { answer = Refuses n; controller = c; output = out })
   -- what the judge call gives is never refused with 2
-  pub genuine : (c d : Controller) (p : List ℕ) (lent : JudgementRecord) (out : List ℕ) → Ready c → Made lent → OnePacket p
+  pub genuine : (c d : Controller) (p : List ℕ) (lent : JudgementRecord) (out : List ℕ) → Ready c → OnePacket p
       → carryCall d (judgementOf c p lent) out .answer ≡ Refuses 2
       → ⊥
   -- a judgement with error codes, from wherever it comes: "one byte for each code, ascending, none twice"; "an error packet closes any open transfer, drops its data

@@ -28,7 +28,7 @@ use Rattle.command.specs.Controller.{transferOf, heldIn, openedFor, tran
 use Rattle.command.specs.Endpoint.{receiveCall, carriedOut}
 use Rattle.command.specs.Encoder.{Writes}
 use Rattle.command.specs.Sending.{Sending, sentTo, Ready, Boundary}
-use Rattle.command.specs.Ruling.{maskOf, codesTold, maskIn, byteTold, dataFor, noByte, rulingFor, openKept, joinedIn, broughtIn, acceptedAs, meant, keptInRule, joinedInRule, inOrder, writable, asksOnly, acceptable, drawable, uncoded, forged, Items, itemsIn, itemsOf, itemsKept, sameCommand, sameBytes, sameItems}
+use Rattle.command.specs.Ruling.{maskOf, codesTold, maskIn, byteTold, dataFor, noByte, rulingFor, openKept, joinedIn, broughtIn, acceptedAs, meant, keptInRule, joinedInRule, inOrder, writable, asksOnly, acceptable, drawable, uncoded, forged, Items, itemsIn, itemsOf, itemsKept, sameItems}
 use Rattle.command.specs.Asking.{Judging, onePacket, judgedAs, judgeCall, Carrying, refused, responseFor, carries, carryCall}
 use Rattle.command.specs.Request5.{OnePacket, judgementOf, Obeys}
 use Rattle.command.specs.declared.table.Command.{Command}
@@ -49,6 +49,7 @@ use Rattle.command.proofs.judgement.Laws.{judge-cases}
 use Rattle.command.proofs.controller.Laws.{rule-parts}
 use Rattle.command.proofs.endpoint.Laws.{held-same}
 use Rattle.command.proofs.endpoint.Boundary.{carried-state, drawn, Takes, takes-packet, between-of, follows-played}
+use Rattle.command.proofs.asking.Ways.{same-self}
 use Rattle.command.proofs.asking.Runs.{half-stays, rule-stays}
 use Rattle.command.proofs.Demand2.{is-packet}
 
@@ -106,18 +107,6 @@ by-items mode t buffer = bool-cases (eqb (t .active) 0) (λ e. rw e) (λ e. rw e
 
 pub same-transfer : (m n : ℕ) (t u : TransferState) (x y : List ℕ) → itemsIn m t x ≡ itemsIn n u y → transferIn t x ≡ transferIn u y
 same-transfer m n t u x y e = by-items m t x ∙ ap (λ (i : Items). transferBy (i .command) (i .held)) e ∙ sym (by-items n u y)
-
-same-bytes : (b : List ℕ) → sameBytes b b ≡ true
-same-bytes [] = refl
-same-bytes (x ∷ b) = and-both _ _ (eq-eqb x x refl) (same-bytes b)
-
-same-command : (c : Option (ℕ × ℕ)) → sameCommand c c ≡ true
-same-command none = refl
-same-command (some c) = and-both _ _ (eq-eqb (c .0) (c .0) refl) (eq-eqb (c .1) (c .1) refl)
-
-pub same-self : (i : Items) → sameItems i i ≡ true
-unfolding sameItems
-same-self i = rw (eq-eqb (i .mode) (i .mode) refl, same-command (i .command), eq-eqb (i .count) (i .count) refl, same-bytes (i .held))
 
 -- The record of a judgement j of the packet p.
 module _ (c : Controller) (k : Ready c) (p : List ℕ) (lent : JudgementRecord) where
@@ -241,7 +230,7 @@ module _ (c : Controller) (k : Ready c) (p : List ℕ) (lent : JudgementRecord) 
 
 -- The judge call on a head in rule and a packet.
 
-one-packet : (p : List ℕ) → IsPacket p → onePacket p ≡ true
+pub one-packet : (p : List ℕ) → IsPacket p → onePacket p ≡ true
 unfolding onePacket
 one-packet p i = and-both _ _ (has-packet p (i .least) (omega (arith, i .exact))) (eq-eqb (size p) (length p) (i .exact))
 

@@ -5,10 +5,10 @@ use mathlib.Core.Path.{_≡_, refl, ap, sym, _∙_}
 use mathlib.Core.Bool.{true, false, not, _&&_}
 use mathlib.Core.List.{List, [], _∷_, _++_, append-nil}
 use native.Mathlib.Omega.{arith}
-use lib.Dec.{eqb, leb, ltb}
+use lib.Dec.{eqb, leb}
 use lib.ListN.{length, length-take, length-drop}
 use lib.Seq.{length-sets}
-use borrow.Author.Tests.{lt-ltb, leb-true, eqb-true, not-true, not-false}
+use borrow.Author.Tests.{lt-ltb, leb-true, not-true, not-false}
 use Rattle.packet.specs.Calls.{Served, servedOne, joined}
 use Rattle.packet.specs.Packet.{payloadLength}
 use Rattle.packet.specs.Receiver.{Receiver, with, waiting as receiverWaiting, packetInRule}
@@ -23,10 +23,10 @@ use Rattle.command.specs.Data.{splitAll}
 use Rattle.command.specs.Value.{valueFrom}
 use Rattle.command.specs.Response.{codesIn}
 use Rattle.command.specs.Player.{isNil, responses, after}
-use Rattle.command.specs.Controller.{heldIn, stateOf, receiverIn, inRule}
+use Rattle.command.specs.Controller.{heldIn, stateOf, receiverIn}
 use Rattle.command.specs.Endpoint.{After, receiveCall}
 use Rattle.command.specs.Sending.{shown, serves, Sending, responsesIn, sentTo, Ready, Boundary}
-use Rattle.command.specs.Ruling.{Items, holds, writes, reads, noByte, transferKept, joinedIn, broughtIn, commandFor, acceptedAs, meant, keptInRule, joinedInRule, inOrder, writable, acceptable, drawable, forged, itemsOf, itemsKept, sameItems, sameCommand, sameBytes}
+use Rattle.command.specs.Ruling.{Items, holds, writes, reads, noByte, transferKept, joinedIn, broughtIn, commandFor, acceptedAs, meant, keptInRule, joinedInRule, inOrder, writable, acceptable, drawable, forged, itemsOf, itemsKept}
 use Rattle.command.specs.Asking.{Carrying, carries, carryCall}
 use Rattle.command.specs.declared.table.Command.{Command}
 use Rattle.command.specs.declared.table.Found.{Found}
@@ -42,24 +42,18 @@ use Rattle.command.proofs.carry.Laws.{Bounded}
 use Rattle.command.proofs.controller.Laws.{rule-parts, rule-whole}
 use Rattle.command.proofs.endpoint.Laws.{receivedBy, ready-carried, endpoint-streams, at-once}
 use Rattle.command.proofs.endpoint.Boundary.{takes-part, between-of, follows-played}
+use Rattle.command.proofs.asking.Ways.{carry-ways}
 
--- what holds of a call that changes nothing, and of one that carries out a judgement which is not refused, holds of the call
-carry-cases : (P : Controller → Type 0) (c : Controller) (j : JudgementRecord) (out : List ℕ) → P c
-    → (forged j ≡ false → sameItems (itemsOf c) (itemsKept j) ≡ true → P (carries c j out .controller))
+-- what holds of a controller, and of what is carried out on it, holds of what the call leaves
+carry-leaves : (P : Controller → Type 0) (c : Controller) (j : JudgementRecord) (out : List ℕ) → P c
+    → (forged j ≡ false → itemsOf c ≡ itemsKept j → P (carries c j out .controller))
     → P (carryCall c j out .controller)
-unfolding carryCall
-carry-cases P c j out k f =
-    cond-cases Of (ltb (length out) 64) (λ _. k)
-    (λ _. cond-cases Of (inRule c)
-    (λ _. cond-cases Of (forged j) (λ _. k) (λ g. cond-cases Of (sameItems (itemsOf c) (itemsKept j)) (λ s. f g s) (λ _. k)))
-    (λ _. k))
-  where
-    Of : Carrying → Type 0
-    Of r = P (r .controller)
+carry-leaves P c j out k f =
+    carry-ways c j out (λ (r : Carrying). P (r .controller)) (λ _. k) (λ _ _. k) (λ _ _ _. k) (λ _ _ _ _. k) (λ _ _ g s. f g s)
 
 -- It leaves the receiver.
 pub half-stays : (c : Controller) (j : JudgementRecord) (out : List ℕ) → receiverIn (carryCall c j out .controller) ≡ receiverIn c
-half-stays c j out = carry-cases (λ d. receiverIn d ≡ receiverIn c) c j out refl (λ _ _. refl)
+half-stays c j out = carry-leaves (λ d. receiverIn d ≡ receiverIn c) c j out refl (λ _ _. refl)
 
 -- A judgement that is not refused may be carried out: it is an error, or a packet draws it.
 module _ (j : JudgementRecord) where
@@ -123,26 +117,15 @@ module _ (j : JudgementRecord) where
       cond-cases Claim (eqb (j .ruling .codes) 0) (λ _. accepted-may (commandFor j) refl) (λ _ _. (tt, tt))
       (λ u. not-false (drawable j) (sym (ap (λ b. b && not (drawable j)) u) ∙ h))
 
--- the mode and the count of items that are the same
-same-items : (a b : Items) → sameItems a b ≡ true → (a .mode ≡ b .mode) × (a .count ≡ b .count)
-unfolding sameItems
-same-items a b h =
-    let x = eqb (a .mode) (b .mode) in
-    let y = sameCommand (a .command) (b .command) in
-    let z = eqb (a .count) (b .count) in
-    let w = and-left (x && y && z) (sameBytes (a .held) (b .held)) h in
-    (eqb-true (a .mode) (b .mode) (and-left x y (and-left (x && y) z w)), eqb-true (a .count) (b .count) (and-right (x && y) z w))
-
 -- A controller in rule stays so.
 pub rule-stays : (c : Controller) (j : JudgementRecord) (out : List ℕ) → Ready c → Ready (carryCall c j out .controller)
 rule-stays c j out k =
-    carry-cases Ready c j out k
+    carry-leaves Ready c j out k
     (λ f s.
-    let e = same-items (itemsOf c) (itemsKept j) s in
     let m = meant-may j f in
     ready-carried c (receiverIn c) (broughtIn j) (length (broughtIn j)) (meant j) k (k .header) (k .hold)
     (rule-parts (c .settings) (c .registers) (k .rule) .packet)
-    (rw (e .0) (m .0)) (omega arith) (rw (e .1) (m .1)))
+    (rw (ap (λ (i : Items). i .mode) s) (m .0)) (omega arith) (rw (ap (λ (i : Items). i .count) s) (m .1)))
 
 -- A head that has half a packet in its receiver, x.
 module _ (d : Controller) (k : Ready d) (base : Receiver) (z : base .received ≡ 0) (x : List ℕ) (e : receiverIn d ≡ with 0 base x) where

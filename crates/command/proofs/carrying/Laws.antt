@@ -88,7 +88,7 @@ drawn-told n d e =
     (bool-cases (anyCode (codesTold (n .codes))) (λ f. rw f) (λ f. rw f))
 
 -- one without has none in its meaning
-no-codes : (f : Found) (j : JudgementRecord) → codesIn (acceptedAs f j) ≡ []
+pub no-codes : (f : Found) (j : JudgementRecord) → codesIn (acceptedAs f j) ≡ []
 unfolding codesTold codesOf listIf
 no-codes Unknown j = refl
 no-codes (Known c) j =

@@ -36,15 +36,22 @@ use Rattle.command.proofs.value.Laws.{command-from, values-from, value-
 use Rattle.command.proofs.transfer.Laws.{faultless}
 use Rattle.command.proofs.judgement.Laws.{OfWrite, of-judge}
 
--- a packet without flags that this layer makes, as it arrives
+-- a packet of given fields and data, as it arrives
+abbrev pub packetWith : ℕ → ℕ → ℕ → ℕ → List ℕ → Arrived
+packetWith type cmd1 cmd2 flags d =
+    record { type = type; cmd1 = cmd1; cmd2 = cmd2; flags = flags; size = length d; right = true; body = d }
+
+pub arrived-written : (type cmd1 cmd2 flags : ℕ) (d : List ℕ) → length d ≤ 65535 → arrived (packetOf type cmd1 cmd2 flags d) ≡ packetWith type cmd1 cmd2 flags d
+arrived-written type cmd1 cmd2 flags d h =
+    rw (length-written type cmd1 cmd2 flags d h, sum-written type cmd1 cmd2 flags d h, payload-written type cmd1 cmd2 flags d h)
+    (unfold packetOf sealed in refl)
+
+-- one without flags that this layer makes
 abbrev pub plain : ℕ → Command → List ℕ → Arrived
-plain type c d =
-    record { type = type; cmd1 = cmd1For c; cmd2 = cmd2For c; flags = whole; size = length d; right = true; body = d }
+plain type c d = packetWith type (cmd1For c) (cmd2For c) whole d
 
 pub arrived-plain : (type : ℕ) (c : Command) (d : List ℕ) → length d ≤ 65535 → arrived (packetOf type (cmd1For c) (cmd2For c) whole d) ≡ plain type c d
-arrived-plain type c d h =
-    rw (length-written type (cmd1For c) (cmd2For c) whole d h, sum-written type (cmd1For c) (cmd2For c) whole d h, payload-written type (cmd1For c) (cmd2For c) whole d h)
-    (unfold packetOf sealed in refl)
+arrived-plain type c d h = arrived-written type (cmd1For c) (cmd2For c) whole d h
 
 -- At a packet boundary with no transfer open it has no fault of the first group, and is judged by its command and data alone.
 module _ (type : ℕ) (c : Command) (d : List ℕ) (w : wrongCommand (Known c) type ≡ false) (h : length d ≤ 1024) where

@@ -81,16 +81,16 @@ same-ascending (x ∷ k) (y ∷ l) m a b f g =
 
 -- The codes listed are those whose faults hold.
 
-listed-here : (b : Bool) (n : ℕ) (l : List ℕ) → b ≡ true → List·Memᴰ n (listIf b n l)
+pub listed-here : (b : Bool) (n : ℕ) (l : List ℕ) → b ≡ true → List·Memᴰ n (listIf b n l)
 unfolding listIf
 listed-here b n l h = rw h (List·Memᴰ·head refl)
 
-listed-later : (b : Bool) (m n : ℕ) (l : List ℕ) → List·Memᴰ n l → List·Memᴰ n (listIf b m l)
+pub listed-later : (b : Bool) (m n : ℕ) (l : List ℕ) → List·Memᴰ n l → List·Memᴰ n (listIf b m l)
 unfolding listIf
 listed-later true m n l h = List·Memᴰ·tail h
 listed-later false m n l h = h
 
-listed-cases : (b : Bool) (m n : ℕ) (l : List ℕ) {P : Type 0} → (b ≡ true → n ≡ m → P) → (List·Memᴰ n l → P) → List·Memᴰ n (listIf b m l) → P
+pub listed-cases : (b : Bool) (m n : ℕ) (l : List ℕ) {P : Type 0} → (b ≡ true → n ≡ m → P) → (List·Memᴰ n l → P) → List·Memᴰ n (listIf b m l) → P
 unfolding listIf
 listed-cases true m n l f g h = ⊎-elim (λ e. f refl e) g (List·Memᴰ·cases-cons h)
 listed-cases false m n l f g h = g h

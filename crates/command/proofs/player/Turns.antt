@@ -8,19 +8,19 @@ use native.Mathlib.Nat.{zero-add}
 use native.Mathlib.Omega.{arith}
 use lib.Dec.{ltb}
 use borrow.Author.Tests.{lt-ltb, le-ltb}
-use lib.ListN.{length, getD, take, drop, length-drop, take-append-drop, drop-of-length-le}
+use lib.ListN.{length, take, drop, length-drop, take-append-drop, drop-of-length-le}
 use lib.Seq.{drop-drop, length-take-le}
 use Rattle.packet.specs.Packet.{payloadLength, payload, rightSum}
 use Rattle.packet.specs.Stream.{size, hasPacket, nextIn, packets, bytesIn, rest}
 use Rattle.packet.specs.declared.stream.Next.the-variants.{Packet}
 use Rattle.packet.proofs.Cases.{lt-cases}
 use Rattle.packet.proofs.StreamLaws.{IsPacket, payload-length, first-packet, seven, size-within, packets-cons, rest-cons, packets-none, rest-none, next-some, right-front}
-use Rattle.command.specs.Faults.{Arrived, arrived}
+use Rattle.command.specs.Faults.{arrived}
 use Rattle.command.specs.Response.{acknowledged}
 use Rattle.command.specs.Transfer.{Transfer, isOpen}
 use Rattle.command.specs.Judgement.{judge}
 use Rattle.command.specs.Carry.{settingsAfter, transferAfter}
-use Rattle.command.specs.Controller.{heldIn, transferIn, transferInRule, packetIn, transferStateAfter, bufferAfter}
+use Rattle.command.specs.Controller.{heldIn, transferIn, transferInRule, transferStateAfter, bufferAfter}
 use Rattle.command.specs.Inner.{stateIn, orElse}
 use Rattle.command.specs.Player.{State, from, judged, next, after, play, isNil, notAcknowledged, leftOpen, unfinished, earlier, offence}
 use Rattle.command.specs.declared.settings.Settings.{Settings}

@@ -1,11 +1,10 @@
 -- The error codes as the bits of one number, and back.
 use Prim.Native.Nat.{ℕ, _+_, _*_, _/_, _%_, _≤_}
-use mathlib.Core.Path.{_≡_, refl, ap, sym, _∙_}
+use mathlib.Core.Path.{_≡_, ap, _∙_}
 use mathlib.Core.Bool.{Bool, true, false, cond}
 use native.Mathlib.Omega.{arith}
 use lib.Dec.{eqb}
-use borrow.Author.Tests.{eq-eqb, ne-eqb}
-use Rattle.command.specs.Ruling.{bit, hasBit, maskOf, codesTold}
+use Rattle.command.specs.Ruling.{hasBit, maskOf, codesTold}
 use Rattle.command.specs.declared.faults.Codes.{Codes}
 use Rattle.command.specs.declared.rules.WrongByte.the-variants.{Nothing}
 

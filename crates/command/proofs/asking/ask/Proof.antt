@@ -5,7 +5,7 @@ use mathlib.Core.Path.{_≡_, refl, ap, sym, subst, _∙_}
 use mathlib.Core.List.{List}
 use native.Mathlib.Omega.{arith}
 use denote.Ref.{now}
-use lib.ListN.{length, take, drop, length-drop}
+use lib.ListN.{length, take, drop}
 use lib.Seq.{length-take-le}
 use borrow.Author.Needs.{needs}
 use borrow.Author.Tests.{not-true, not-false, ne-eqb}
@@ -14,7 +14,7 @@ use Rattle.packet.specs.Stream.{size, hasPacket}
 use Rattle.packet.proofs.NumberLaws.{bytes-at}
 use Rattle.packet.proofs.StreamLaws.{next-some, next-none, seven, size-most, payload-length}
 use Rattle.command.specs.Faults.{arrived}
-use Rattle.command.specs.Controller.{transferOf, heldIn, transferIn, transferInRule, partsInRule}
+use Rattle.command.specs.Controller.{heldIn, transferIn, transferInRule, partsInRule}
 use Rattle.command.specs.Asking.{onePacket}
 use Rattle.command.specs.Ruling.{dataFor}
 use Rattle.command.specs.Lent.{withoutHold, recordOf, noRuling}

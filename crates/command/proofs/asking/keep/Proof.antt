@@ -1,6 +1,6 @@
 -- `keep` meets its contract: the held data are stored first, and behind them the packet's, unless it is an error.
-use mathlib.Core.List.{List, _++_}
-use mathlib.Core.Path.{_≡_, refl, sym, ap, _∙_}
+use mathlib.Core.List.{List}
+use mathlib.Core.Path.{_≡_, sym, ap, _∙_}
 use Prim.Native.Nat.{ℕ, _+_}
 use native.Mathlib.Omega.{arith}
 use denote.Ref.{now}
@@ -8,9 +8,6 @@ use lib.ListN.{length, take, length-append}
 use lib.Seq.{sets, length-take-le}
 use borrow.Author.Needs.{needs}
 use Rattle.packet.specs.Packet.{error}
-use Rattle.command.specs.Controller.{heldIn}
-use Rattle.command.specs.Response.{responseType}
-use Rattle.command.specs.Ruling.{dataFor}
 use Rattle.command.specs.Inner.{heldBy}
 use Rattle.command.proofs.transfer.Laws.{held-most}
 use Rattle.command.proofs.asking.Laws.{data-error, data-accepted, stored-first, stored-both}

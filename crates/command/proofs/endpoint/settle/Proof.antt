@@ -1,6 +1,5 @@
 -- `settle` meets its contract: the packet is judged as the receiver has it, and `carry` does the rest.
 use Prim.Native.Nat.{ℕ, _≤_, min}
-use mathlib.Core.Bool.{true}
 use mathlib.Core.List.{List}
 use mathlib.Core.Path.{_≡_, refl, sym, ap, _∙_}
 use native.Mathlib.Omega.{arith}
