@@ -5,13 +5,17 @@
 // tries each row of the guide's tables of parameter values at its limits and just past them, 521 cases.
 // The file `04` has those of request 4: 216 streams, 10 more in which several fields of a packet are wrong,
 // 233 reports, 15 more that are refused with 18, 200 standard lists and 199 packets of the encoder.
+// The file `05` has those of request 5: 210 streams, 234 reports, 200 standard lists, 200 packets of the
+// encoder, 300 packets to judge, 11 more, 377 judgements to carry out, and 45 more.
 // A case is a row: its kind in a byte, its length in four, least significant first, and its bytes.
 // `scripts/vectors-data` makes the cases and the expected text from the vectors and the papers, and
 // nothing of it comes from this program. What is proved of the program is that it is safe and ends.
+mod asking;
 mod emit;
 mod fields;
 mod guide;
 mod said;
+mod same;
 mod stream;
 
 use report::Checked;
@@ -52,6 +56,8 @@ fn case(kind: u8, b: &[u8]) {
         b'l' => emit::list(b),
         b'e' => emit::packet(b),
         b'g' => guide::tell(b),
+        b'j' => asking::judge(b),
+        b'c' => asking::carry(b),
         _ => text(b" of no known kind\n"),
     }
 }
@@ -95,4 +101,5 @@ fn main() {
     file(b"02");
     file(b"03");
     file(b"04");
+    file(b"05");
 }
