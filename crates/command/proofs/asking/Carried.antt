@@ -2,7 +2,7 @@
 use Prim.Native.Nat.{ℕ, _+_, _<_, _≤_}
 use mathlib.Core.Path.{_≡_, refl, ap, ap₂, sym, subst, _∙_}
 use mathlib.Core.Bool.{Bool, true, false, not, _&&_, _||_, and-false}
-use mathlib.Core.List.{List, [], _∷_, _++_, append-nil, append-assoc}
+use mathlib.Core.List.{List, [], _∷_, _++_, map, append-nil, append-assoc}
 use mathlib.Core.Option.{Option, none, some}
 use native.Mathlib.Omega.{arith}
 use lib.Dec.{eqb}
@@ -23,14 +23,14 @@ use Rattle.command.specs.Transfer.{Transfer, Closed, held, isOpen, openF
 use Rattle.command.specs.Faults.{arrived, faults, anyFault, sizeFault, valueFault, modeFault, listIf, codesOf}
 use Rattle.command.specs.Judgement.{judge}
 use Rattle.command.specs.Response.{responseType, responseTo, response, codesIn, wrongIn}
-use Rattle.command.specs.Player.{judged, next, isNil, responses, after}
+use Rattle.command.specs.Player.{judged, next, isNil, judgements, responses, after}
 use Rattle.command.specs.Controller.{transferOf, heldIn, openedFor, transferIn, stateOf, receiverIn}
 use Rattle.command.specs.Endpoint.{receiveCall, carriedOut}
 use Rattle.command.specs.Encoder.{Writes}
-use Rattle.command.specs.Sending.{Sending, sentTo, Ready, Boundary}
+use Rattle.command.specs.Sending.{Sending, sentTo, wrongTo, Ready, Boundary}
 use Rattle.command.specs.Ruling.{maskOf, codesTold, maskIn, byteTold, dataFor, noByte, rulingFor, openKept, joinedIn, broughtIn, acceptedAs, meant, keptInRule, joinedInRule, inOrder, writable, asksOnly, acceptable, drawable, uncoded, forged, Items, itemsIn, itemsOf, itemsKept, sameItems}
 use Rattle.command.specs.Asking.{Judging, onePacket, judgedAs, judgeCall, Carrying, refused, responseFor, carries, carryCall}
-use Rattle.command.specs.Request5.{OnePacket, judgementOf, Obeys}
+use Rattle.command.specs.Request5.{OnePacket, judgementOf, Says, Obeys, Alike}
 use Rattle.command.specs.declared.table.Command.{Command}
 use Rattle.command.specs.declared.table.Command.the-variants.{DisplayMode}
 use Rattle.command.specs.declared.table.Found.{Found}
@@ -48,7 +48,7 @@ use Rattle.command.proofs.ruling.Laws.{codesAlone, mask-told}
 use Rattle.command.proofs.judgement.Laws.{judge-cases}
 use Rattle.command.proofs.controller.Laws.{rule-parts}
 use Rattle.command.proofs.endpoint.Laws.{held-same}
-use Rattle.command.proofs.endpoint.Boundary.{carried-state, drawn, Takes, takes-packet, between-of, follows-played}
+use Rattle.command.proofs.endpoint.Boundary.{carried-state, drawn, Takes, takes-packet, between-of, follows-played, wrong-played}
 use Rattle.command.proofs.asking.Ways.{same-self}
 use Rattle.command.proofs.asking.Runs.{half-stays, rule-stays}
 use Rattle.command.proofs.Demand2.{is-packet}
@@ -255,18 +255,20 @@ module _ (c : Controller) (p : List ℕ) (lent : JudgementRecord) (k : Ready c) 
   keeps-items = ap (λ (j : JudgementRecord). itemsKept j) record-is ∙ items-kept c k p lent (judged (stateOf c) p)
 
 pub judging-says : (c : Controller) (p : List ℕ) (lent : JudgementRecord) → Ready c → OnePacket p
-    → let j = judgementOf c p lent in
-    (judgeCall c p lent .refusal ≡ none)
-    × (codesIn (meant j) ≡ codesIn (judged (stateOf c) p))
-    × (responseType (meant j) ≡ responseType (judged (stateOf c) p))
-    × (j .ruling .wrong ≡ byteTold (wrongIn (judged (stateOf c) p)))
+    → (judgeCall c p lent .refusal ≡ none) × Says c p (judgementOf c p lent)
 judging-says c p lent k o =
     let e = judge-is c p lent k o in
     let m = judgement-meant c p lent k o in (
       ap (λ (r : Judging). r .refusal) e,
-      ap codesIn m ∙ codes-told (judged (stateOf c) p),
-      ap responseType m ∙ told-same responseType (λ _. refl) (judged (stateOf c) p),
-      ap (λ (r : Judging). r .judgement .ruling .wrong) e,
+      record {
+        codes = ap (λ (r : Judging). r .judgement .ruling .codes) e;
+        accepts = ap (λ (r : Judging). r .judgement .ruling .accepts) e;
+        wrong = ap (λ (r : Judging). r .judgement .ruling .wrong) e;
+        cmd1 = ap (λ (r : Judging). r .judgement .ruling .cmd1) e;
+        cmd2 = ap (λ (r : Judging). r .judgement .ruling .cmd2) e;
+        sends = ap codesIn m ∙ codes-told (judged (stateOf c) p);
+        type = ap responseType m ∙ told-same responseType (λ _. refl) (judged (stateOf c) p);
+      },
     )
 
 -- bytes that are written twice
@@ -317,17 +319,18 @@ module _ (c d : Controller) (p : List ℕ) (lent : JudgementRecord) (k : Ready c
       ap (λ (x : JudgementRecord). broughtIn x) (record-is c p lent k o)
       ∙ ap (drop (heldIn (transferOf (c .registers)))) (joined-is c k p lent (judged (stateOf c) p))
 
-  state-is : stateOf (carriedOut d (receiverIn d) (broughtIn given) (meant given)) ≡ next (stateOf d) p
-  state-is =
+  left-is : carriedOut d (receiverIn d) (broughtIn given) (meant given) ≡ carriedOut d (receiverIn d) (payload p) (judged (stateOf d) p)
+  left-is =
       let n = heldIn (transferOf (c .registers)) in
       let x = judged (stateOf c) p in
       let b = dataFor (held (stateOf c .transfer)) (payload p) x in
-      ap stateOf
-      (ap₂ (carriedOut d (receiverIn d)) brought-is (judgement-meant c p lent k o)
+      ap₂ (carriedOut d (receiverIn d)) brought-is (judgement-meant c p lent k o)
       ∙ told-same (carriedOut d (receiverIn d) (drop n b)) (λ _. refl) x
       ∙ brought-out d (held (stateOf c .transfer)) (payload p) n (held-same c k) x
-      ∙ ap (carriedOut d (receiverIn d) (payload p)) judged-alike)
-      ∙ carried-state d l p (is-packet p o) (receiverIn d) (payload p) (λ _. refl)
+      ∙ ap (carriedOut d (receiverIn d) (payload p)) judged-alike
+
+  state-is : stateOf (carriedOut d (receiverIn d) (broughtIn given) (meant given)) ≡ next (stateOf d) p
+  state-is = ap stateOf left-is ∙ carried-state d l p (is-packet p o) (receiverIn d) (payload p) (λ _. refl)
 
   -- it is what document 01 says of the packet there
   obeys : (out : List ℕ) → 64 ≤ length out → Obeys d p out (carryCall d given out)
@@ -380,27 +383,39 @@ module _ (c : Controller) (p : List ℕ) (lent : JudgementRecord) (out : List �
         subst (λ (x : List ℕ). Takes out c p (receiveCall c x out)) (append-nil p)
         (takes-packet out room c (q .ready) (between-of q) p [] (is-packet p o))
 
+    -- the controller that is left
+    left : carried .controller ≡ carriedOut c (receiverIn c) (payload p) (judged (stateOf c) p)
+    left = ap (λ (x : Carrying). x .controller) (carry-is c c p lent (q .ready) (q .ready) o refl out room) ∙ left-is c c p lent (q .ready) (q .ready) o refl
+
     output-is : take n (carried .output) ≡ drawn c p
     unfolding written
     output-is = ap (take n) (obeyed .output) ∙ take-at (drawn c p) (drop (length (drawn c p)) out) n count-is
 
 pub receive-obeys : (c : Controller) (p : List ℕ) (lent : JudgementRecord) (out : List ℕ) (n : ℕ) → Boundary c → OnePacket p
-    → let r = carryCall c (judgementOf c p lent) out in
-    r .answer ≡ Writes n
-    → (receiveCall c p out .answer ≡ Answers (length p) n)
-    × (receiveCall c p out .output ≡ r .output)
-    × (stateOf (receiveCall c p out .controller) ≡ stateOf (r .controller))
+    → let r = carryCall c (judgementOf c p lent) out in r .answer ≡ Writes n → Alike c p out n (judgementOf c p lent) r
 receive-obeys c p lent out n q o w =
-    let b = obeyed c p lent out n q o w in
     let t = takes c p lent out n q o w in
-    (t .answer ∙ ap (Answers (length p)) (count-is c p lent out n q o w), t .output ∙ sym (b .output), t .state ∙ sym (b .state))
+    let x = left c p lent out n q o w in
+    record {
+      answer = t .answer ∙ ap (Answers (length p)) (count-is c p lent out n q o w);
+      wrong = ap byteTold (t .wrong) ∙ sym (judging-says c p lent (q .ready) o .1 .wrong);
+      output = t .output ∙ sym (obeyed c p lent out n q o w .output);
+      settings = ap (λ (d : Controller). d .settings) (t .controller) ∙ sym (ap (λ (d : Controller). d .settings) x);
+      transfer = ap (λ (d : Controller). transferOf (d .registers)) (t .controller) ∙ sym (ap (λ (d : Controller). transferOf (d .registers)) x);
+      buffer = ap (λ (d : Controller). d .buffer) (t .controller) ∙ sym (ap (λ (d : Controller). d .buffer) x);
+    }
 
 pub cut-obeys : (c : Controller) (p : List ℕ) (s : Sending p) (lent : JudgementRecord) (out : List ℕ) (n : ℕ) → Boundary c → OnePacket p
     → let r = carryCall c (judgementOf c p lent) out in
-    r .answer ≡ Writes n → (sentTo c s .given ≡ take n (r .output) ∷ []) × (stateOf (sentTo c s .state) ≡ stateOf (r .controller))
-unfolding responses after
+    r .answer ≡ Writes n
+    → (sentTo c s .given ≡ take n (r .output) ∷ [])
+    × (map byteTold (wrongTo c s) ≡ judgementOf c p lent .ruling .wrong ∷ [])
+    × (stateOf (sentTo c s .state) ≡ stateOf (r .controller))
+unfolding responses after judgements
 cut-obeys c p s lent out n q o w =
     let f = follows-played c p s q in (
       f .given ∙ ap (responses (stateOf c)) o ∙ ap {B = List (List ℕ)} (λ (x : List ℕ). x ∷ []) (sym (output-is c p lent out n q o w)),
+      ap (map byteTold) (wrong-played c p s q ∙ ap (λ (ps : List (List ℕ)). map wrongIn (judgements (stateOf c) ps)) o)
+          ∙ ap (λ (m : ℕ). m ∷ []) (sym (judging-says c p lent (q .ready) o .1 .wrong)),
       f .ends ∙ ap (after (stateOf c)) o ∙ sym (obeyed c p lent out n q o w .state),
     )

@@ -201,13 +201,19 @@ module _ (c : Controller) (j : JudgementRecord) (out : List ℕ) where
   )
 
   pub carry-untouched : (n : ℕ) → carryCall c j out .answer ≡ Refuses n
-      → (n ≤ 4) × (carryCall c j out ≡ record { answer = Refuses n; controller = c; output = out })
+      → (1 ≤ n) × (n ≤ 4) × (carryCall c j out ≡ record { answer = Refuses n; controller = c; output = out })
   carry-untouched n =
-      carry-ways c j out (λ x. With n x → (n ≤ 4) × (x ≡ refused n c out)) (λ _. same 1 (omega arith)) (λ _ _. same 3 (omega arith)) (λ _ _ _. same 2 (omega arith))
-      (λ _ _ _ _. same 4 (omega arith)) (λ _ _ _ _. no-refusal)
+      carry-ways c j out (λ x. With n x → (1 ≤ n) × (n ≤ 4) × (x ≡ refused n c out)) (λ _. same 1 (omega arith) (omega arith))
+      (λ _ _. same 3 (omega arith) (omega arith)) (λ _ _ _. same 2 (omega arith) (omega arith)) (λ _ _ _ _. same 4 (omega arith) (omega arith))
+      (λ _ _ _ _. no-refusal)
     where
-      same : (k : ℕ) → k ≤ 4 → Refuses k ≡ Refuses n → (n ≤ 4) × (refused k c out ≡ refused n c out)
-      same k l h = (omega (arith, outcome-number h), ap (λ (i : ℕ). refused i c out) (outcome-number h))
+      same : (k : ℕ) → 1 ≤ k → k ≤ 4 → Refuses k ≡ Refuses n → (1 ≤ n) × (n ≤ 4) × (refused k c out ≡ refused n c out)
+      same k m l h = (omega (arith, outcome-number h), omega (arith, outcome-number h), ap (λ (i : ℕ). refused i c out) (outcome-number h))
+
+  pub carry-answers : Made j → 64 ≤ length out → (OutOfRule c → ⊥) → (Uncoded j → ⊥) ⊎ Drawn j → itemsOf c ≡ itemsKept j → carryCall c j out ≡ carries c j out
+  carry-answers m l o d s =
+      carry-ways c j out (λ x. x ≡ carries c j out) (λ h. absurd (omega arith)) (λ _ r. absurd (o r))
+      (λ _ _ f. never (sym (not-forged j m .1 d) ∙ f)) (λ _ _ _ n. absurd (n s)) (λ _ _ _ _. refl)
 
 -- what the judge call gives is never refused with 2
 pub carry-genuine : (c d : Controller) (p : List ℕ) (lent : JudgementRecord) (out : List ℕ) → Ready c → OnePacket p

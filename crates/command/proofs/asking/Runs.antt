@@ -1,7 +1,7 @@
 -- The call that carries out a judgement, whatever judgement is handed in: the half-received packet stays, a head in rule stays in rule, and the bytes that
 -- come afterwards are judged as document 01 judges them.
 use Prim.Native.Nat.{ℕ, _+_, _≤_}
-use mathlib.Core.Path.{_≡_, refl, ap, sym, _∙_}
+use mathlib.Core.Path.{_≡_, refl, ap, sym, subst, _∙_}
 use mathlib.Core.Bool.{true, false, not, _&&_}
 use mathlib.Core.List.{List, [], _∷_, _++_, append-nil}
 use native.Mathlib.Omega.{arith}
@@ -15,8 +15,8 @@ use Rattle.packet.specs.Receiver.{Receiver, with, waiting as receiverWaiting, p
 use Rattle.packet.specs.Stream.{hasPacket, packets, rest}
 use Rattle.packet.proofs.Cases.{cond-cases, and-left, and-right}
 use Rattle.packet.proofs.Calls.{goes-on}
-use Rattle.packet.proofs.StreamLaws.{rest-short}
-use Rattle.packet.proofs.ReceiverLaws.{hold-length}
+use Rattle.packet.proofs.StreamLaws.{no-header, rest-short}
+use Rattle.packet.proofs.ReceiverLaws.{with-nil, hold-length}
 use Rattle.command.specs.Table.{layout, sizeOf}
 use Rattle.command.specs.Rules.{allowed, blocked}
 use Rattle.command.specs.Data.{splitAll}
@@ -27,6 +27,8 @@ use Rattle.command.specs.Controller.{heldIn, stateOf, receiverIn}
 use Rattle.command.specs.Endpoint.{After, receiveCall}
 use Rattle.command.specs.Sending.{shown, serves, Sending, responsesIn, sentTo, Ready, Boundary}
 use Rattle.command.specs.Ruling.{Items, holds, writes, reads, noByte, transferKept, joinedIn, broughtIn, commandFor, acceptedAs, meant, keptInRule, joinedInRule, inOrder, writable, acceptable, drawable, forged, itemsOf, itemsKept}
+use Rattle.command.specs.Demand2.{Follows}
+use Rattle.command.specs.Request5.{HalfReceived}
 use Rattle.command.specs.Asking.{Carrying, carries, carryCall}
 use Rattle.command.specs.declared.table.Command.{Command}
 use Rattle.command.specs.declared.table.Found.{Found}
@@ -127,6 +129,15 @@ rule-stays c j out k =
     (rule-parts (c .settings) (c .registers) (k .rule) .packet)
     (rw (ap (λ (i : Items). i .mode) s) (m .0)) (omega arith) (rw (ap (λ (i : Items). i .count) s) (m .1)))
 
+-- A head at a packet boundary, and one on which something is carried out.
+pub half-begins : (c : Controller) → Boundary c → HalfReceived c []
+half-begins c q =
+    record { ready = q .ready; base = receiverIn c; boundary = q .received; came = sym (with-nil 0 (receiverIn c)); few = no-header [] (omega arith) }
+
+pub half-passes : (c : Controller) (x : List ℕ) (j : JudgementRecord) (out : List ℕ) → HalfReceived c x → HalfReceived (carryCall c j out .controller) x
+half-passes c x j out h =
+    record { ready = rule-stays c j out (h .ready); base = h .base; boundary = h .boundary; came = half-stays c j out ∙ h .came; few = h .few }
+
 -- A head that has half a packet in its receiver, x.
 module _ (d : Controller) (k : Ready d) (base : Receiver) (z : base .received ≡ 0) (x : List ℕ) (e : receiverIn d ≡ with 0 base x) where
   -- the head before that
@@ -174,19 +185,14 @@ module _ (d : Controller) (k : Ready d) (base : Receiver) (z : base .received �
         ∙ ap (λ (c : Controller). servedOne (serves out) c b) s
         ∙ sym (at-once out l d b t k))
 
-    goes-played : (sentTo d t .given ≡ responses (stateOf d) (packets (x ++ b))) × (stateOf (sentTo d t .state) ≡ after (stateOf d) (packets (x ++ b)))
-    goes-played =
-        let f = follows-played before (x ++ b) together before-boundary in (
-          sym (ap (λ (r : Served Controller (List ℕ)). r .given) sent-together) ∙ f .given,
-          sym (ap (λ (r : Served Controller (List ℕ)). stateOf (r .state)) sent-together) ∙ f .ends,
-        )
+    goes-played : Follows before (x ++ b) (sentTo d t)
+    goes-played = subst (Follows before (x ++ b)) sent-together (follows-played before (x ++ b) together before-boundary)
 
 -- Over a run.
-pub run-follows : (c : Controller) (a : List ℕ) (s : Sending a) (j : JudgementRecord) (out b : List ℕ) (t : Sending b) → Boundary c
-    → let d = carryCall (sentTo c s .state) j out .controller in
-    (sentTo d t .given ≡ responses (stateOf d) (packets (rest a ++ b))) × (stateOf (sentTo d t .state) ≡ after (stateOf d) (packets (rest a ++ b)))
-run-follows c a s j out b t q =
-    let f = follows-played c a s q in
-    let d₀ = sentTo c s .state in
-    goes-played (carryCall d₀ j out .controller) (rule-stays d₀ j out (f .ready)) (f .base) (f .boundary) (rest a)
-    (half-stays d₀ j out ∙ f .unfinished) (rest-short a) b t
+pub run-follows : (c : Controller) (x b : List ℕ) (t : Sending b) → HalfReceived c x
+    → (sentTo c t .given ≡ responses (stateOf c) (packets (x ++ b)))
+    × (stateOf (sentTo c t .state) ≡ after (stateOf c) (packets (x ++ b)))
+    × HalfReceived (sentTo c t .state) (rest (x ++ b))
+run-follows c x b t h =
+    let f = goes-played c (h .ready) (h .base) (h .boundary) x (h .came) (h .few) b t in
+    (f .given, f .ends, record { ready = f .ready; base = f .base; boundary = f .boundary; came = f .unfinished; few = rest-short (x ++ b) })

@@ -25,16 +25,17 @@ use Rattle.command.specs.Judgement.{judgeAs, judge}
 use Rattle.command.specs.Carry.{settingsAfter}
 use Rattle.command.specs.Response.{response, wrongIn}
 use Rattle.command.specs.Player.{State, judged, next, judgements, responses, after}
-use Rattle.command.specs.Controller.{transferOf, stateOf, receiverIn}
+use Rattle.command.specs.Controller.{transferOf, heldIn, stateOf, receiverIn}
 use Rattle.command.specs.Endpoint.{arrivedIn, judgedIn, responseIn, carriedOut, After, waiting, receiveCall}
 use Rattle.command.specs.Sending.{Reply, serves, Ready, Sending, repliesTo, sentTo, wrongTo, Boundary}
 use Rattle.command.specs.Demand2.{Follows}
 use Rattle.command.specs.declared.table.Found.{Found}
 use Rattle.command.specs.declared.table.Found.the-variants.{Known, Unknown}
 use Rattle.command.specs.declared.judgement.Judgement.{Judgement}
+use Rattle.command.specs.declared.judgement.Judgement.the-variants.{Error, Hold, Write, Read}
 use Rattle.command.specs.declared.controller.Controller.{Controller}
 use Rattle.command.proofs.transfer.Laws.{fits-hold}
-use Rattle.command.proofs.carry.Laws.{stored-part, carried-transfer}
+use Rattle.command.proofs.carry.Laws.{Bounded, stored-part, carried-transfer}
 use Rattle.command.proofs.controller.Laws.{rule-parts}
 use Rattle.command.proofs.endpoint.Laws.{call-is, has-room, stays-in-rule, endpoint-streams, at-once}
 
@@ -62,6 +63,14 @@ carried-state c k p i r body e =
     ap (λ (t : Transfer). record { settings = settingsAfter (c .settings) (judged (stateOf c) p); transfer = t })
     (carried-transfer (transferOf (c .registers)) (c .buffer) body (arrived p) (judged (stateOf c) p) (q .transfer) (k .buffer)
     (payload-length p (i .exact)) e (has-room c (arrived p) k))
+
+-- Nor does it matter to the controller that is left.
+body-alike : (c : Controller) (r : Receiver) (x y : List ℕ) (n : ℕ) (j : Judgement) → (n ≤ 1024 → x ≡ y) → Bounded (heldIn (transferOf (c .registers)) + n) j
+    → carriedOut c r x j ≡ carriedOut c r y j
+body-alike c r x y n (Error k) e b = refl
+body-alike c r x y n (Hold d) e b = ap (λ (z : List ℕ). carriedOut c r z (Hold d)) (e (omega arith))
+body-alike c r x y n (Write v) e b = refl
+body-alike c r x y n (Read d) e b = refl
 
 -- One whole packet, from a packet boundary.
 module _ (c : Controller) (k : Ready c) (p : List ℕ) (i : IsPacket p) where
@@ -103,6 +112,14 @@ module _ (c : Controller) (k : Ready c) (p : List ℕ) (i : IsPacket p) where
       ap (λ (j : Judgement). stateOf (carriedOut c (complete .receiver) (arrivedIn complete .body) j)) judged-same
       ∙ carried-state c k p i (complete .receiver) (arrivedIn complete .body) (λ l. ap (λ (q : Arrived). q .body) seen ∙ whole-body l)
 
+  -- the controller that is left
+  left-same : carriedOut c (complete .receiver) (arrivedIn complete .body) (judgedIn c complete) ≡ carriedOut c (complete .receiver) (payload p) (judged (stateOf c) p)
+  unfolding judged
+  left-same =
+      ap (carriedOut c (complete .receiver) (arrivedIn complete .body)) judged-same
+      ∙ body-alike c (complete .receiver) (arrivedIn complete .body) (payload p) (payloadLength p) (judged (stateOf c) p)
+      (λ l. ap (λ (q : Arrived). q .body) seen ∙ whole-body l) (has-room c (arrived p) k)
+
 -- what a packet draws
 abbrev pub drawn : Controller → List ℕ → List ℕ
 drawn c p = response (c .settings) (arrived p) (judged (stateOf c) p)
@@ -112,6 +129,7 @@ pub record Takes (out : List ℕ) (c : Controller) (p : List ℕ) (r : After) : 
   pub answer : r .answer ≡ Answers (length p) (length (drawn c p))
   pub output : r .output ≡ written (drawn c p) out
   pub wrong : r .wrong ≡ wrongIn (judged (stateOf c) p)
+  pub controller : r .controller ≡ carriedOut c (one 0 (receiverIn c) p .receiver) (payload p) (judged (stateOf c) p)
   pub state : stateOf (r .controller) ≡ next (stateOf c) p
   pub ready : Ready (r .controller)
   pub boundary : Between (receiverIn (r .controller))
@@ -124,6 +142,7 @@ module _ (out : List ℕ) (l : 64 ≤ length out) (c : Controller) (k : Ready c)
         answer = ap (λ (r : After). r .answer) e ∙ ap (λ (m : List ℕ). Answers (length p) (length m)) (response-same c k p i);
         output = ap (λ (r : After). r .output) e ∙ ap (λ (m : List ℕ). written m out) (response-same c k p i);
         wrong = ap (λ (r : After). r .wrong) e ∙ ap wrongIn (judged-same c k p i);
+        controller = ap (λ (r : After). r .controller) e ∙ left-same c k p i;
         state = ap (λ (r : After). stateOf (r .controller)) e ∙ state-same c k p i;
         ready = stays-in-rule c (p ++ b) out k l;
         boundary = subst (λ (r : After). Between (receiverIn (r .controller))) (sym e) (between-packet (receiverIn c) p i);
