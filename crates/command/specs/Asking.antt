@@ -11,7 +11,7 @@ use Rattle.packet.specs.Writer.{written}
 use Rattle.command.specs.Transfer.{held}
 use Rattle.command.specs.Response.{responseTo}
 use Rattle.command.specs.Player.{judged}
-use Rattle.command.specs.Controller.{stateOf, receiverIn, inRule}
+use Rattle.command.specs.Controller.{stateOf, receiverIn, inRule, zeros}
 use Rattle.command.specs.Endpoint.{carriedOut}
 use Rattle.command.specs.Encoder.{Outcome, Refuses, Writes}
 use Rattle.command.specs.Ruling.{dataFor, rulingFor, broughtIn, meant, forged, itemsOf, itemsKept, sameItems}
@@ -21,6 +21,8 @@ use Rattle.command.specs.declared.asking.Asked.the-variants as asked
 use Rattle.command.specs.declared.carrying.CarriedOut.{CarriedOut}
 use Rattle.command.specs.declared.carrying.CarriedOut.the-variants as carried
 use Rattle.command.specs.declared.judgement.Judgement.{Judgement}
+use Rattle.command.specs.declared.asking.Judged.{Judged}
+use Rattle.command.specs.declared.ruling.Ruling.{Ruling}
 use Rattle.command.specs.declared.ruling.JudgementRecord.{JudgementRecord}
 
 -- The judge call: a refusal's number or none, and the record that is lent, as it is afterwards.
@@ -41,6 +43,26 @@ onePacket b = hasPacket b && eqb (size b) (length b)
 -- a refusal touches nothing lent
 abbrev pub refusedWith : ℕ → JudgementRecord → Judging
 refusedWith n lent = record { refusal = some n; judgement = lent }
+
+-- what stands where there is no judgement, and the call is not lent a record: zeros, "error" with no code at all
+abbrev pub noRuling : Ruling
+noRuling =
+    record {
+      codes = 0;
+      accepts = 0;
+      wrong = 0;
+      count = 0;
+      cmd1 = 0;
+      cmd2 = 0;
+      kept = record { held = 0; mode = 0; active = 0; cmd1 = 0; cmd2 = 0 };
+    }
+
+abbrev pub noJudgement : JudgementRecord
+noJudgement = record { ruling = noRuling; joined = zeros }
+
+-- what the answer of the call by value says
+abbrev pub judgedOf : Judged → Judging
+judgedOf a = record { refusal = refusalOf (a .answer); judgement = a .judgement }
 
 -- the judgement: its numbers, and its data at the array's start, the rest untouched
 abbrev pub judgedAs : Controller → List ℕ → Judgement → JudgementRecord → Judging

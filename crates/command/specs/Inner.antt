@@ -16,9 +16,9 @@ use Rattle.command.specs.Value.{valueFrom}
 use Rattle.command.specs.Player.{State}
 use Rattle.command.specs.Judgement.{judgeWrite}
 use Rattle.command.specs.Carry.{settingsAfter}
-use Rattle.command.specs.Response.{wrongIn, responseTo}
+use Rattle.command.specs.Response.{responseTo}
 use Rattle.command.specs.Controller.{transferOf, heldIn, transferIn, receiverIn, transferInRule, transferStateAfter, bufferAfter}
-use Rattle.command.specs.Ruling.{maskIn, acceptance, holds, writes, reads, noByte, byteTold}
+use Rattle.command.specs.Ruling.{acceptance, holds, writes, reads, noWrong, transferOfKept}
 use Rattle.command.specs.Endpoint.{After, answered}
 use Rattle.command.specs.Encoder.{Writes}
 use Rattle.command.specs.Asking.{outcomeOf}
@@ -38,12 +38,11 @@ use Rattle.command.specs.declared.controller.Controller.{Controller}
 use Rattle.command.specs.declared.controller.Registers.{Registers}
 use Rattle.command.specs.declared.judgement.Judgement.{Judgement}
 use Rattle.command.specs.declared.judgement.Judgement.the-variants.{Hold, Read}
-use Rattle.command.specs.declared.ruling.Kept.{Kept}
 use Rattle.command.specs.declared.ruling.Ruling.{Ruling}
 use Rattle.command.specs.declared.carrying.Performed.{Performed}
-use Rattle.command.specs.declared.carrying.Drawn.{Drawn}
-use Rattle.command.specs.declared.carrying.Drawn.the-variants as drawn
-use Rattle.command.specs.declared.carrying.Drawn.the-variants.{By}
+use Rattle.command.specs.declared.carrying.Meant.{Meant}
+use Rattle.command.specs.declared.carrying.Meant.the-variants as means
+use Rattle.command.specs.declared.carrying.Meant.the-variants.{By}
 
 -- the command in line k of the table, from 0; past the end, the last: the contract of Command::at; put_list goes through `table` by it
 abbrev pub commandAt : ℕ → Command
@@ -155,31 +154,10 @@ anyCode k =
 abbrev pub heldBy : TransferState → List ℕ → List ℕ
 heldBy t buffer = take (heldIn t) buffer
 
--- keptFrom of a controller that has these, by computing
-abbrev pub keptOf : Settings → Registers → Kept
-keptOf s r = record { held = r .held; mode = s .mode; active = r .active; cmd1 = r .cmd1; cmd2 = r .cmd2 }
-
--- transferKept of a record that has these, by computing
-abbrev pub transferOfKept : Kept → TransferState
-transferOfKept k = record { active = k .active; cmd1 = k .cmd1; cmd2 = k .cmd2; held = k .held }
-
--- the numbers of a judgement: rulingFor (law ruling-is of asking/Laws)
-abbrev pub rulingOf : Settings → Registers → ℕ → ℕ → ℕ → Judgement → Ruling
-rulingOf s r cmd1 cmd2 count j =
-    record {
-      codes = maskIn j;
-      accepts = acceptance j;
-      wrong = byteTold (wrongIn j);
-      count = count;
-      cmd1 = cmd1;
-      cmd2 = cmd2;
-      kept = keptOf s r;
-    }
-
 -- the tests of `drawable` that look at the numbers alone (law drawable-is of carrying/Laws)
 abbrev pub rulingInRule : Ruling → Bool
 rulingInRule n =
-    eqb (n .wrong) noByte
+    eqb (n .wrong) noWrong
     && allowed DisplayMode (n .kept .mode ∷ [])
     && transferInRule (transferOfKept (n .kept))
     && leb (heldIn (transferOfKept (n .kept))) (n .count)
@@ -199,9 +177,9 @@ acceptedBy c n d =
     (cond (eqb (n .accepts) reads && eqb (t .active) 0 && readable c && eqb (n .count) 0) (some (Read c)) none))
 
 -- what such an answer of the code says
-abbrev pub drawnOf : Drawn → Option Judgement
-drawnOf (By j) = some j
-drawnOf drawn.Nothing = none
+abbrev pub meantOf : Meant → Option Judgement
+meantOf (By j) = some j
+meantOf means.Nothing = none
 
 -- both are open for the same command with as many bytes held, or neither is open: the numbers of `sameItems` (law same-numbers of carrying/Laws)
 abbrev pub sameNumbers : TransferState → TransferState → Bool

@@ -5,7 +5,6 @@ use mathlib.Core.List.{List, []}
 use Prim.Native.Nat.{ℕ}
 use Rattle.packet.specs.Answer.{Outcome, Refuses, Waits, Answers, outcomeOf}
 use Rattle.command.specs.Rules.{byteOf}
-use Rattle.command.specs.Controller.{zeros}
 use Rattle.command.specs.Endpoint.{After}
 use Rattle.command.specs.Encoder as encoder
 use Rattle.command.specs.Asking as asking
@@ -16,7 +15,6 @@ use Rattle.command.specs.declared.endpoint.Served.{Served}
 use Rattle.command.specs.declared.ruling.Ruling.{Ruling}
 use Rattle.command.specs.declared.ruling.JudgementRecord.{JudgementRecord}
 use Rattle.command.specs.declared.asking.Asking.{Asking}
-use Rattle.command.specs.declared.asking.Judged.{Judged}
 use Rattle.command.specs.declared.carrying.Performed.{Performed}
 
 -- the controller of these parts
@@ -52,35 +50,16 @@ withoutHold s r buffer = controllerOf s r buffer []
 abbrev pub recordOf : Ruling → List ℕ → JudgementRecord
 recordOf n d = record { ruling = n; joined = d }
 
--- what stands where there is no judgement: zeros
-abbrev pub noRuling : Ruling
-noRuling =
-    record {
-      codes = 0;
-      accepts = 0;
-      wrong = 0;
-      count = 0;
-      cmd1 = 0;
-      cmd2 = 0;
-      kept = record { held = 0; mode = 0; active = 0; cmd1 = 0; cmd2 = 0 };
-    }
-
-abbrev pub noJudgement : JudgementRecord
-noJudgement = recordOf noRuling zeros
-
 -- what the judge call answers, by its result and the array that it left
 abbrev pub askedOf : Asking → List ℕ → asking.Judging
 askedOf a joined = record { refusal = asking.refusalOf (a .answer); judgement = recordOf (a .ruling) joined }
-
-abbrev pub judgedOf : Judged → asking.Judging
-judgedOf a = record { refusal = asking.refusalOf (a .answer); judgement = a .judgement }
 
 -- what the call that carries out answers and leaves
 abbrev pub performedOf : Performed → List ℕ → List ℕ → asking.Carrying
 performedOf p buffer out =
     record { answer = asking.outcomeOf (p .answer); controller = withoutHold (p .settings) (p .registers) buffer; output = out }
 
--- the settings are to be stored exactly where the judgement was carried out; in every other case they are as they were
+-- the settings are to be stored exactly where the judgement was carried out; in every other case they are as they were (Request5.untouched)
 abbrev pub isWritten : encoder.Outcome → Bool
 isWritten (encoder.Refuses n) = false
 isWritten (encoder.Writes n) = true

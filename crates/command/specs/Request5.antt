@@ -25,7 +25,7 @@ use Rattle.command.specs.Controller.{transferOf, stateOf, receiverIn}
 use Rattle.command.specs.Endpoint.{receiveCall}
 use Rattle.command.specs.Encoder.{Refuses, Writes}
 use Rattle.command.specs.Sending.{Sending, sentTo, wrongTo, Ready, Boundary}
-use Rattle.command.specs.Ruling.{hasBit, codesTold, maskIn, acceptance, byteTold, meant, itemsOf, itemsKept}
+use Rattle.command.specs.Ruling.{hasBit, codesTold, maskIn, acceptance, wrongTold, meant, itemsOf, itemsKept}
 use Rattle.command.specs.Asking.{judgeCall, Carrying, carries, carryCall}
 use Rattle.command.specs.Demand1.{Ascending, OutOfRule}
 use Rattle.command.specs.declared.controller.Controller.{Controller}
@@ -57,7 +57,7 @@ pub record Drawn (j : JudgementRecord) : Type 0 where
 pub record Says (c : Controller) (p : List ℕ) (j : JudgementRecord) : Type 0 where
   pub codes : j .ruling .codes ≡ maskIn (judged (stateOf c) p)
   pub accepts : j .ruling .accepts ≡ acceptance (judged (stateOf c) p)
-  pub wrong : j .ruling .wrong ≡ byteTold (wrongIn (judged (stateOf c) p))
+  pub wrong : j .ruling .wrong ≡ wrongTold (wrongIn (judged (stateOf c) p))
   pub cmd1 : j .ruling .cmd1 ≡ cmd1Of p
   pub cmd2 : j .ruling .cmd2 ≡ cmd2Of p
   -- and what they mean: the codes that the packet draws, and the type of its response
@@ -81,7 +81,7 @@ pub record Obeys (c : Controller) (p out : List ℕ) (r : Carrying) : Type 0 whe
 -- the controller but the receiver, which is between two packets then
 pub record Alike (c : Controller) (p out : List ℕ) (n : ℕ) (j : JudgementRecord) (r : Carrying) : Type 0 where
   pub answer : receiveCall c p out .answer ≡ Answers (length p) n
-  pub wrong : byteTold (receiveCall c p out .wrong) ≡ j .ruling .wrong
+  pub wrong : wrongTold (receiveCall c p out .wrong) ≡ j .ruling .wrong
   pub output : receiveCall c p out .output ≡ r .output
   pub settings : receiveCall c p out .controller .settings ≡ r .controller .settings
   pub transfer : transferOf (receiveCall c p out .controller .registers) ≡ transferOf (r .controller .registers)
@@ -134,7 +134,7 @@ pub record Request5 : Type 0 where
       → let r = carryCall c (judgementOf c p lent) out in
       r .answer ≡ Writes n
       → (sentTo c s .given ≡ take n (r .output) ∷ [])
-      × (map byteTold (wrongTo c s) ≡ judgementOf c p lent .ruling .wrong ∷ [])
+      × (map wrongTold (wrongTo c s) ≡ judgementOf c p lent .ruling .wrong ∷ [])
       × (stateOf (sentTo c s .state) ≡ stateOf (r .controller))
   -- "neither touches a half-received packet": judging hands no controller back, and whatever is carried out leaves header, sum, count and payload.
   pub half : (c : Controller) (j : JudgementRecord) (out : List ℕ) → receiverIn (carryCall c j out .controller) ≡ receiverIn c

@@ -24,6 +24,8 @@ use Rattle.command.specs.declared.rules.WrongByte.the-variants.{Nothing}
 use Rattle.command.specs.declared.judgement.Judgement.{Judgement}
 use Rattle.command.specs.declared.judgement.Judgement.the-variants.{Error, Hold, Write, Read}
 use Rattle.command.specs.declared.transfer.TransferState.{TransferState}
+use Rattle.command.specs.declared.settings.Settings.{Settings}
+use Rattle.command.specs.declared.controller.Registers.{Registers}
 use Rattle.command.specs.declared.controller.Controller.{Controller}
 use Rattle.command.specs.declared.ruling.Kept.{Kept}
 use Rattle.command.specs.declared.ruling.Ruling.{Ruling}
@@ -93,12 +95,12 @@ acceptance (Write v) = writes
 acceptance (Read c) = reads
 
 -- the byte that code 03 is about: all 16 bits set where there is none
-abbrev pub noByte : ℕ
-noByte = 0xFFFF
+abbrev pub noWrong : ℕ
+noWrong = 0xFFFF
 
-abbrev pub byteTold : Option ℕ → ℕ
-byteTold none = noByte
-byteTold (some n) = n
+abbrev pub wrongTold : Option ℕ → ℕ
+wrongTold none = noWrong
+wrongTold (some n) = n
 
 -- the data that it holds: those that were held, and behind them those that the packet brings, where it is accepted
 abbrev pub dataFor : List ℕ → List ℕ → Judgement → List ℕ
@@ -108,35 +110,34 @@ dataFor h b (Write v) = h ++ b
 dataFor h b (Read c) = h ++ b
 
 -- "so it keeps the mode, open command and held data it was made under"; none is open where `active` is 0
-abbrev pub keptFrom : Controller → Kept
-keptFrom c =
-    record {
-      held = c .registers .held;
-      mode = c .settings .mode;
-      active = c .registers .active;
-      cmd1 = c .registers .cmd1;
-      cmd2 = c .registers .cmd2;
-    }
+abbrev pub keptOf : Settings → Registers → Kept
+keptOf s r = record { held = r .held; mode = s .mode; active = r .active; cmd1 = r .cmd1; cmd2 = r .cmd2 }
 
--- the numbers of the judgement j that the packet p draws from the controller c
-abbrev pub rulingFor : Controller → List ℕ → Judgement → Ruling
-rulingFor c p j =
+-- the numbers of the judgement j of a packet with this CMD1 and CMD2, the data that it holds being so many
+abbrev pub rulingOf : Settings → Registers → ℕ → ℕ → ℕ → Judgement → Ruling
+rulingOf s r cmd1 cmd2 count j =
     record {
       codes = maskIn j;
       accepts = acceptance j;
-      wrong = byteTold (wrongIn j);
-      count = length (dataFor (held (stateOf c .transfer)) (payload p) j);
-      cmd1 = cmd1Of p;
-      cmd2 = cmd2Of p;
-      kept = keptFrom c;
+      wrong = wrongTold (wrongIn j);
+      count = count;
+      cmd1 = cmd1;
+      cmd2 = cmd2;
+      kept = keptOf s r;
     }
+
+-- those of the judgement j that the packet p draws from the controller c
+abbrev pub rulingFor : Controller → List ℕ → Judgement → Ruling
+rulingFor c p j = rulingOf (c .settings) (c .registers) (cmd1Of p) (cmd2Of p) (length (dataFor (held (stateOf c .transfer)) (payload p) j)) j
 
 -- What a record means, from wherever it comes.
 
 -- the transfer that it was made under, its held data being the first bytes of the array
+abbrev pub transferOfKept : Kept → TransferState
+transferOfKept k = record { active = k .active; cmd1 = k .cmd1; cmd2 = k .cmd2; held = k .held }
+
 abbrev pub transferKept : JudgementRecord → TransferState
-transferKept j =
-    record { active = j .ruling .kept .active; cmd1 = j .ruling .kept .cmd1; cmd2 = j .ruling .kept .cmd2; held = j .ruling .kept .held }
+transferKept j = transferOfKept (j .ruling .kept)
 
 abbrev pub openKept : JudgementRecord → Transfer
 openKept j = transferIn (transferKept j) (j .joined)
@@ -198,7 +199,7 @@ acceptable (Known c) j =
 unfoldable pub drawable : JudgementRecord → Bool
 drawable j =
     eqb (j .ruling .codes) 0
-    && eqb (j .ruling .wrong) noByte
+    && eqb (j .ruling .wrong) noWrong
     && keptInRule j
     && joinedInRule j
     && acceptable (commandFor j) j

@@ -3,7 +3,7 @@ use crate::controller::Controller;
 use crate::controller::Registers;
 use crate::controller::in_rule;
 use crate::judgement::Judgement;
-use crate::judgement::judge_packet as judge;
+use crate::judgement::judge_bytes;
 use crate::response::response_type;
 use crate::ruling::JudgementRecord;
 use crate::ruling::Kept;
@@ -22,10 +22,10 @@ ghost use Prim.Native.Nat.{_≤_, _<_};
 ghost use lib.ListN.{length};
 ghost use Rattle.packet.specs.Writer.{written};
 ghost use Rattle.command.specs.Controller.{transferInRule};
-ghost use Rattle.command.specs.Ruling.{dataFor};
-ghost use Rattle.command.specs.Asking.{judgeCall};
-ghost use Rattle.command.specs.Lent.{withoutHold, recordOf, noRuling, noJudgement, askedOf, judgedOf};
-ghost use Rattle.command.specs.Inner.{heldBy, rulingOf};
+ghost use Rattle.command.specs.Ruling.{dataFor, rulingOf};
+ghost use Rattle.command.specs.Asking.{noRuling, noJudgement, judgedOf, judgeCall};
+ghost use Rattle.command.specs.Lent.{withoutHold, recordOf, askedOf};
+ghost use Rattle.command.specs.Inner.{heldBy};
 
 // What the judge call answers.
 pub enum Asked {
@@ -114,7 +114,7 @@ pub fn ask(
         return refused(Asked::NotOnePacket);
     }
     let t = r.transfer();
-    let j = judge(settings.mode, t, buffer, input, right);
+    let j = judge_bytes(settings.mode, t, buffer, input, right);
     let count = keep(t, buffer, &input[HEADER..size - 1], j, joined);
     Asking {
         ruling: ruling(settings, r, input[1], input[2], count, j),

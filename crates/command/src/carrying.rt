@@ -30,10 +30,10 @@ ghost use mathlib.Core.Option.{none, some};
 ghost use Prim.Native.Nat.{_≤_, _<_};
 ghost use lib.ListN.{length};
 ghost use Rattle.command.specs.Controller.{transferOf, transferInRule};
-ghost use Rattle.command.specs.Ruling.{forged, meant, itemsIn, sameItems, sameBytes as sameBytesOf};
+ghost use Rattle.command.specs.Ruling.{forged, meant, itemsIn, sameItems, sameBytes as sameBytesOf, transferOfKept};
 ghost use Rattle.command.specs.Asking.{outcomeOf, carryCall};
 ghost use Rattle.command.specs.Lent.{withoutHold, recordOf, performedOf, performedExactly};
-ghost use Rattle.command.specs.Inner.{sameNumbers, rulingInRule, transferOfKept, acceptedBy, drawnOf, Carries};
+ghost use Rattle.command.specs.Inner.{sameNumbers, rulingInRule, acceptedBy, meantOf, Carries};
 
 // What the call answers.
 pub enum CarriedOut {
@@ -50,7 +50,7 @@ pub enum CarriedOut {
 }
 
 // A judgement that some packet draws, or that has codes.
-enum Drawn {
+enum Meant {
     By(Judgement),
     Nothing,
 }
@@ -64,54 +64,54 @@ fn ruling_in_rule(n: Ruling) -> bool
     let t = kept.transfer();
     let held = t.held();
     let count = n.count as usize;
-    let mode = display_mode(kept.mode).is_nothing();
-    let transfer = t.in_rule();
-    (n.wrong == NO_WRONG_BYTE) & mode & transfer & (held <= count) & (count <= HOLD)
+    let mode_allowed = display_mode(kept.mode).is_nothing();
+    let transfer_in_rule = t.in_rule();
+    (n.wrong == NO_WRONG_BYTE) & mode_allowed & transfer_in_rule & (held <= count) & (count <= HOLD)
 }
 
 // A judgement without codes for this command, its joined data in two parts.
-fn accepted(c: Command, n: Ruling, held: &[u8], brought: &[u8]) -> Drawn
+fn accepted(c: Command, n: Ruling, held: &[u8], brought: &[u8]) -> Meant
     requires { ⌜ (length (now held) ≤ 1024) × (length (now brought) < 65536) ⌝ }
-    ensures { λ d. ⌜ drawnOf d ≡ acceptedBy c n (now (held .entry) ++ now (brought .entry)) ⌝ }
+    ensures { λ d. ⌜ meantOf d ≡ acceptedBy c n (now (held .entry) ++ now (brought .entry)) ⌝ }
 {
     let kept = n.kept;
     let t = kept.transfer();
     let closed = t.active == 0;
     let in_order = closed | open_for(Found::Known(c), t);
     if (n.accepts == HOLDS) & in_order {
-        return Drawn::By(Judgement::Hold(c));
+        return Meant::By(Judgement::Hold(c));
     }
     if (n.accepts == WRITES) & in_order {
         let j = judge_write(c, kept.mode, held, brought);
         if accepts(j) == WRITES {
-            return Drawn::By(j);
+            return Meant::By(j);
         }
-        return Drawn::Nothing;
+        return Meant::Nothing;
     }
     let readable = Found::Known(c).readable();
     if (n.accepts == READS) & closed & readable & (n.count == 0) {
-        return Drawn::By(Judgement::Read(c));
+        return Meant::By(Judgement::Read(c));
     }
-    Drawn::Nothing
+    Meant::Nothing
 }
 
 // What a record means, unless no packet draws it.
-fn meaning(n: Ruling, joined: &[u8]) -> Drawn
+fn meaning(n: Ruling, joined: &[u8]) -> Meant
     requires { ⌜ length (now joined) ≡ 1024 ⌝ }
-    ensures { λ d. ⌜ drawnOf d ≡ cond (forged (recordOf n (now (joined .entry)))) none (some (meant (recordOf n (now (joined .entry))))) ⌝ }
+    ensures { λ d. ⌜ meantOf d ≡ cond (forged (recordOf n (now (joined .entry)))) none (some (meant (recordOf n (now (joined .entry))))) ⌝ }
 {
     if n.codes != 0 {
         let k = Codes::told(n.codes);
         if k.any() {
-            return Drawn::By(Judgement::Error(k));
+            return Meant::By(Judgement::Error(k));
         }
-        return Drawn::Nothing;
+        return Meant::Nothing;
     }
     if !ruling_in_rule(n) {
-        return Drawn::Nothing;
+        return Meant::Nothing;
     }
     let Found::Known(c) = Command::find(n.cmd1, n.cmd2) else {
-        return Drawn::Nothing;
+        return Meant::Nothing;
     };
     let kept = n.kept;
     let t = kept.transfer();
@@ -194,7 +194,7 @@ fn untouched(settings: Settings, registers: Registers, answer: CarriedOut) -> Pe
 }
 
 // A judgement that is not refused.
-fn settle(
+fn carry_record(
     settings: Settings,
     r: Registers,
     buffer: &mut [u8; HOLD],
@@ -248,13 +248,13 @@ pub fn perform(
     if !in_rule(settings, r) {
         return untouched(settings, r, CarriedOut::OutOfRule);
     }
-    let Drawn::By(j) = meaning(n, joined) else {
+    let Meant::By(j) = meaning(n, joined) else {
         return untouched(settings, r, CarriedOut::Forged);
     };
     if !current(settings.mode, r.transfer(), buffer, n.kept, joined) {
         return untouched(settings, r, CarriedOut::Stale);
     }
-    settle(settings, r, buffer, n, joined, j, out)
+    carry_record(settings, r, buffer, n, joined, j, out)
 }
 
 // The answer, and the controller afterwards.

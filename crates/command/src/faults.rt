@@ -6,7 +6,7 @@ use crate::transfer::TransferState;
 use packet::HEADER;
 ghost use mathlib.Core.Path.{_≡_};
 ghost use mathlib.Core.Bool.{true, cond};
-ghost use Prim.Native.Nat.{_≤_, _<_, _/_, _%_};
+ghost use Prim.Native.Nat.{_≤_, _<_, _^_, _/_, _%_};
 ghost use lib.Dec.{eqb};
 ghost use Rattle.packet.specs.Packet.{typeOf, flagsOf, payloadLength};
 ghost use Rattle.command.specs.Inner.{isOpenIn, openForIn, faultsOf, anyCode};
@@ -15,19 +15,20 @@ ghost use Rattle.command.specs.declared.rules.WrongByte.the-variants as 
 ghost use Rattle.command.specs.Faults.{wrongCommand, tooLong, wrongOrder, anyFault, valueFault};
 ghost use Rattle.command.specs.Ruling.{maskOf, codesTold};
 
-// A bit of this value, where it is set.
-fn bit(set: bool, value: u16) -> u16
-    ensures { λ r. ⌜ (r ≡ cond set value 0) × (r ≤ value) ⌝ }
+// The bit of a code, where it is set.
+fn bit(set: bool, code: u16) -> u16
+    requires { ⌜ code < 12 ⌝ }
+    ensures { λ r. ⌜ (r ≡ cond set (2 ^ code) 0) × (r ≤ 2 ^ code) ⌝ }
 {
-    if set { value } else { 0 }
+    if set { 1 << code } else { 0 }
 }
 
-// The bit of this value is set.
-fn has_bit(mask: u16, value: u16) -> bool
-    requires { ⌜ 0 < value ⌝ }
-    ensures { λ r. ⌜ r ≡ eqb (mask / value % 2) 1 ⌝ }
+// The bit of a code is set.
+fn has_bit(mask: u16, code: u16) -> bool
+    requires { ⌜ code < 12 ⌝ }
+    ensures { λ r. ⌜ r ≡ eqb (mask / 2 ^ code % 2) 1 ⌝ }
 {
-    mask / value % 2 == 1
+    (mask >> code) % 2 == 1
 }
 
 // The error codes, by the names that the command guide gives them: which of them hold; and with 03 the byte
@@ -116,17 +117,17 @@ impl Codes {
     pub(crate) fn mask(self) -> u16
         ensures { λ m. ⌜ m ≡ maskOf self ⌝ }
     {
-        bit(self.failure, 2)
-            + bit(self.command, 4)
-            + bit(self.parameter, 8)
-            + bit(self.memory, 16)
-            + bit(self.device, 32)
-            + bit(self.busy, 64)
-            + bit(self.precondition, 128)
-            + bit(self.object, 256)
-            + bit(self.checksum, 512)
-            + bit(self.format, 1024)
-            + bit(self.continuation, 2048)
+        bit(self.failure, 0x01)
+            + bit(self.command, 0x02)
+            + bit(self.parameter, 0x03)
+            + bit(self.memory, 0x04)
+            + bit(self.device, 0x05)
+            + bit(self.busy, 0x06)
+            + bit(self.precondition, 0x07)
+            + bit(self.object, 0x08)
+            + bit(self.checksum, 0x09)
+            + bit(self.format, 0x0A)
+            + bit(self.continuation, 0x0B)
     }
 
     // The codes that such a number says.
@@ -134,17 +135,17 @@ impl Codes {
         ensures { λ k. ⌜ k ≡ codesTold mask ⌝ }
     {
         Codes {
-            failure: has_bit(mask, 2),
-            command: has_bit(mask, 4),
-            parameter: has_bit(mask, 8),
-            memory: has_bit(mask, 16),
-            device: has_bit(mask, 32),
-            busy: has_bit(mask, 64),
-            precondition: has_bit(mask, 128),
-            object: has_bit(mask, 256),
-            checksum: has_bit(mask, 512),
-            format: has_bit(mask, 1024),
-            continuation: has_bit(mask, 2048),
+            failure: has_bit(mask, 0x01),
+            command: has_bit(mask, 0x02),
+            parameter: has_bit(mask, 0x03),
+            memory: has_bit(mask, 0x04),
+            device: has_bit(mask, 0x05),
+            busy: has_bit(mask, 0x06),
+            precondition: has_bit(mask, 0x07),
+            object: has_bit(mask, 0x08),
+            checksum: has_bit(mask, 0x09),
+            format: has_bit(mask, 0x0A),
+            continuation: has_bit(mask, 0x0B),
             wrong: WrongByte::Nothing,
         }
     }

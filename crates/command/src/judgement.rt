@@ -120,7 +120,7 @@ pub(crate) fn judge(
 }
 
 // One whole packet, its checksum right or not.
-pub(crate) fn judge_packet(
+pub(crate) fn judge_bytes(
     mode: u8,
     t: TransferState,
     buffer: &[u8],

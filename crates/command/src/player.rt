@@ -2,7 +2,7 @@
 use crate::carry::settings_after;
 use crate::carry::transfer_after;
 use crate::judgement::Judgement;
-use crate::judgement::judge_packet;
+use crate::judgement::judge_bytes;
 use crate::response::response_type;
 use crate::rules::settings_in_rule;
 use crate::settings::Settings;
@@ -123,7 +123,7 @@ pub fn play(s: Settings, b: &[u8]) -> Played
             break;
         };
         let p = &b[at..at + size];
-        let j = judge_packet(settings.mode, transfer, &buffer, p, right);
+        let j = judge_bytes(settings.mode, transfer, &buffer, p, right);
         first = first.or(unacknowledged(at, j));
         opener = opener_with(transfer, opener, at);
         settings = settings_after(settings, j);

@@ -9,8 +9,7 @@ use crate::transfer::HOLD;
 use crate::transfer::TransferState;
 ghost use mathlib.Core.Path.{_≡_};
 ghost use Rattle.command.specs.Rules.{byteOf};
-ghost use Rattle.command.specs.Ruling.{maskIn, acceptance, byteTold};
-ghost use Rattle.command.specs.Inner.{keptOf, transferOfKept};
+ghost use Rattle.command.specs.Ruling.{maskIn, acceptance, wrongTold, keptOf, transferOfKept};
 
 // How a packet with no fault is accepted: its data are held, its write is carried out, or it is a read.
 pub const HOLDS: u16 = 1;
@@ -129,7 +128,7 @@ pub(crate) fn accepts(j: Judgement) -> u16
 
 // The byte that is wrong, as a number.
 pub(crate) fn told_byte(w: WrongByte) -> u16
-    ensures { λ n. ⌜ n ≡ byteTold (byteOf w) ⌝ }
+    ensures { λ n. ⌜ n ≡ wrongTold (byteOf w) ⌝ }
 {
     match w {
         WrongByte::At(n) => n as u16,

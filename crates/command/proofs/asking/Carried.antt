@@ -28,7 +28,7 @@ use Rattle.command.specs.Controller.{transferOf, heldIn, openedFor, tran
 use Rattle.command.specs.Endpoint.{receiveCall, carriedOut}
 use Rattle.command.specs.Encoder.{Writes}
 use Rattle.command.specs.Sending.{Sending, sentTo, wrongTo, Ready, Boundary}
-use Rattle.command.specs.Ruling.{maskOf, codesTold, maskIn, byteTold, dataFor, noByte, rulingFor, openKept, joinedIn, broughtIn, acceptedAs, meant, keptInRule, joinedInRule, inOrder, writable, asksOnly, acceptable, drawable, uncoded, forged, Items, itemsIn, itemsOf, itemsKept, sameItems}
+use Rattle.command.specs.Ruling.{maskOf, codesTold, maskIn, wrongTold, dataFor, noWrong, rulingFor, openKept, joinedIn, broughtIn, acceptedAs, meant, keptInRule, joinedInRule, inOrder, writable, asksOnly, acceptable, drawable, uncoded, forged, Items, itemsIn, itemsOf, itemsKept, sameItems}
 use Rattle.command.specs.Asking.{Judging, onePacket, judgedAs, judgeCall, Carrying, refused, responseFor, carries, carryCall}
 use Rattle.command.specs.Request5.{OnePacket, judgementOf, Says, Obeys, Alike}
 use Rattle.command.specs.declared.table.Command.{Command}
@@ -182,7 +182,7 @@ module _ (c : Controller) (k : Ready c) (p : List ℕ) (lent : JudgementRecord) 
         (le-leb (length (dataFor heldData (payload p) j)) 1024 (omega (arith, l, f, s))) in
         let draws : drawable (recordFor j) ≡ true =
         and-both _ _
-        (and-both _ _ (and-both _ _ (and-both _ _ (eq-eqb (maskIn j) 0 m) (ap (λ (o : Option ℕ). eqb (byteTold o) noByte) w)) kept) joined)
+        (and-both _ _ (and-both _ _ (and-both _ _ (eq-eqb (maskIn j) 0 m) (ap (λ (o : Option ℕ). eqb (wrongTold o) noWrong) w)) kept) joined)
         (ap (λ (f : Found). acceptable f (recordFor j)) e ∙ g) in
         record {
           means = rw (m, e) a;
@@ -398,7 +398,7 @@ receive-obeys c p lent out n q o w =
     let x = left c p lent out n q o w in
     record {
       answer = t .answer ∙ ap (Answers (length p)) (count-is c p lent out n q o w);
-      wrong = ap byteTold (t .wrong) ∙ sym (judging-says c p lent (q .ready) o .1 .wrong);
+      wrong = ap wrongTold (t .wrong) ∙ sym (judging-says c p lent (q .ready) o .1 .wrong);
       output = t .output ∙ sym (obeyed c p lent out n q o w .output);
       settings = ap (λ (d : Controller). d .settings) (t .controller) ∙ sym (ap (λ (d : Controller). d .settings) x);
       transfer = ap (λ (d : Controller). transferOf (d .registers)) (t .controller) ∙ sym (ap (λ (d : Controller). transferOf (d .registers)) x);
@@ -409,13 +409,13 @@ pub cut-obeys : (c : Controller) (p : List ℕ) (s : Sending p) (lent : Judgemen
     → let r = carryCall c (judgementOf c p lent) out in
     r .answer ≡ Writes n
     → (sentTo c s .given ≡ take n (r .output) ∷ [])
-    × (map byteTold (wrongTo c s) ≡ judgementOf c p lent .ruling .wrong ∷ [])
+    × (map wrongTold (wrongTo c s) ≡ judgementOf c p lent .ruling .wrong ∷ [])
     × (stateOf (sentTo c s .state) ≡ stateOf (r .controller))
 unfolding responses after judgements
 cut-obeys c p s lent out n q o w =
     let f = follows-played c p s q in (
       f .given ∙ ap (responses (stateOf c)) o ∙ ap {B = List (List ℕ)} (λ (x : List ℕ). x ∷ []) (sym (output-is c p lent out n q o w)),
-      ap (map byteTold) (wrong-played c p s q ∙ ap (λ (ps : List (List ℕ)). map wrongIn (judgements (stateOf c) ps)) o)
+      ap (map wrongTold) (wrong-played c p s q ∙ ap (λ (ps : List (List ℕ)). map wrongIn (judgements (stateOf c) ps)) o)
           ∙ ap (λ (m : ℕ). m ∷ []) (sym (judging-says c p lent (q .ready) o .1 .wrong)),
       f .ends ∙ ap (after (stateOf c)) o ∙ sym (obeyed c p lent out n q o w .state),
     )

@@ -30,7 +30,7 @@ use Rattle.command.specs.Controller.{heldIn, stateOf, receiverIn, transf
 use Rattle.command.specs.Endpoint.{registersOf}
 use Rattle.command.specs.Sending.{Ready}
 use Rattle.command.specs.Inner.{isOpenIn, openForIn, faultsOf}
-use Rattle.command.specs.Ruling.{maskIn, holds, writes, reads, acceptance, noByte, byteTold, dataFor, transferKept, openKept, joinedIn, broughtIn, commandFor, keptInRule, joinedInRule, inOrder, asksOnly, acceptable, drawable}
+use Rattle.command.specs.Ruling.{maskIn, holds, writes, reads, acceptance, noWrong, wrongTold, dataFor, transferKept, openKept, joinedIn, broughtIn, commandFor, keptInRule, joinedInRule, inOrder, asksOnly, acceptable, drawable}
 use Rattle.command.specs.Asking.{Judging, judgeCall}
 use Rattle.command.specs.Request5.{Made, Drawn}
 use Rattle.command.specs.declared.table.Command.{Command}
@@ -134,7 +134,7 @@ judging-eq : (j : JudgementRecord) {n : Ruling} {d : List ℕ} → n ≡ j .ruli
     → _≡_ {A = Judging} (record { refusal = none; judgement = record { ruling = n; joined = d } }) (record { refusal = none; judgement = j })
 judging-eq j e f = rw (e, f)
 
-module _ (j : JudgementRecord) (m : Made j) (z : j .ruling .codes ≡ 0) (v : j .ruling .wrong ≡ noByte) (k : keptInRule j ≡ true) (b : joinedInRule j ≡ true)
+module _ (j : JudgementRecord) (m : Made j) (z : j .ruling .codes ≡ 0) (v : j .ruling .wrong ≡ noWrong) (k : keptInRule j ≡ true) (b : joinedInRule j ≡ true)
     (c : Command) (e : commandFor j ≡ Known c) where
   abbrev numbers : TransferState
   numbers = transferKept j
@@ -216,7 +216,7 @@ module _ (j : JudgementRecord) (m : Made j) (z : j .ruling .codes ≡ 0) (v : j 
                 judged-bringer ∙ y,
               )
               (judging-eq j
-              (ruling-eq (j .ruling) (plain x n .codes ∙ sym z) (sym (eqb-true (j .ruling .accepts) (acceptance x) a)) (ap byteTold (plain x n .wrong) ∙ sym v)
+              (ruling-eq (j .ruling) (plain x n .codes ∙ sym z) (sym (eqb-true (j .ruling .accepts) (acceptance x) a)) (ap wrongTold (plain x n .wrong) ∙ sym v)
               (ap length data-is ∙ count-is) refl refl refl)
               (ap (λ (d : List ℕ). written d (j .joined)) data-is ∙ written-same (j .ruling .count) (j .joined) (omega (arith, most, m .size))));
         }
@@ -278,10 +278,10 @@ unfolding drawable
 found-drawn j m h = go (commandFor j) refl (and-right first _ h)
   where
     first : Bool
-    first = eqb (j .ruling .codes) 0 && eqb (j .ruling .wrong) noByte && keptInRule j && joinedInRule j
+    first = eqb (j .ruling .codes) 0 && eqb (j .ruling .wrong) noWrong && keptInRule j && joinedInRule j
 
     go : (f : Found) → commandFor j ≡ f → acceptable f j ≡ true → Drawn j
     go Unknown e a = never a
     go (Known c) e a =
-        let r = all-of-four (eqb (j .ruling .codes) 0) (eqb (j .ruling .wrong) noByte) (keptInRule j) (joinedInRule j) (and-left first _ h) in
-        drawn-accepted j m (eqb-true (j .ruling .codes) 0 (r .0)) (eqb-true (j .ruling .wrong) noByte (r .1)) (r .2) (r .3) c e a
+        let r = all-of-four (eqb (j .ruling .codes) 0) (eqb (j .ruling .wrong) noWrong) (keptInRule j) (joinedInRule j) (and-left first _ h) in
+        drawn-accepted j m (eqb-true (j .ruling .codes) 0 (r .0)) (eqb-true (j .ruling .wrong) noWrong (r .1)) (r .2) (r .3) c e a

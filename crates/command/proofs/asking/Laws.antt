@@ -19,10 +19,10 @@ use Rattle.command.specs.Judgement.{judge}
 use Rattle.command.specs.Response.{responseType}
 use Rattle.command.specs.Player.{judged}
 use Rattle.command.specs.Controller.{transferOf, transferIn, inRule, partsInRule}
-use Rattle.command.specs.Ruling.{dataFor}
+use Rattle.command.specs.Ruling.{dataFor, rulingOf}
 use Rattle.command.specs.Asking.{Judging, onePacket, refusedWith, judgeCall}
 use Rattle.command.specs.Lent.{withoutHold, recordOf}
-use Rattle.command.specs.Inner.{heldBy, rulingOf}
+use Rattle.command.specs.Inner.{heldBy}
 use Rattle.command.specs.declared.table.Found.the-variants.{Known}
 use Rattle.command.specs.declared.settings.Settings.{Settings}
 use Rattle.command.specs.declared.transfer.TransferState.{TransferState}

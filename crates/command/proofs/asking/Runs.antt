@@ -9,7 +9,7 @@ use lib.Dec.{eqb, leb}
 use lib.ListN.{length, length-take, length-drop}
 use lib.Seq.{length-sets}
 use borrow.Author.Tests.{lt-ltb, leb-true, not-true, not-false}
-use Rattle.packet.specs.Calls.{Served, servedOne, joined}
+use Rattle.packet.specs.Calls.{servedOne, joined}
 use Rattle.packet.specs.Packet.{payloadLength}
 use Rattle.packet.specs.Receiver.{Receiver, with, waiting as receiverWaiting, packetInRule}
 use Rattle.packet.specs.Stream.{hasPacket, packets, rest}
@@ -26,7 +26,7 @@ use Rattle.command.specs.Player.{isNil, responses, after}
 use Rattle.command.specs.Controller.{heldIn, stateOf, receiverIn}
 use Rattle.command.specs.Endpoint.{After, receiveCall}
 use Rattle.command.specs.Sending.{shown, serves, Sending, responsesIn, sentTo, Ready, Boundary}
-use Rattle.command.specs.Ruling.{Items, holds, writes, reads, noByte, transferKept, joinedIn, broughtIn, commandFor, acceptedAs, meant, keptInRule, joinedInRule, inOrder, writable, acceptable, drawable, forged, itemsOf, itemsKept}
+use Rattle.command.specs.Ruling.{Items, holds, writes, reads, noWrong, transferKept, joinedIn, broughtIn, commandFor, acceptedAs, meant, keptInRule, joinedInRule, inOrder, writable, acceptable, drawable, forged, itemsOf, itemsKept}
 use Rattle.command.specs.Demand2.{Follows}
 use Rattle.command.specs.Request5.{HalfReceived}
 use Rattle.command.specs.Asking.{Carrying, carries, carryCall}
@@ -74,7 +74,7 @@ module _ (j : JudgementRecord) where
   drawable-parts : drawable j ≡ true → Drawable
   unfolding drawable
   drawable-parts h =
-      let k = eqb (j .ruling .codes) 0 && eqb (j .ruling .wrong) noByte && keptInRule j in
+      let k = eqb (j .ruling .codes) 0 && eqb (j .ruling .wrong) noWrong && keptInRule j in
       let d = acceptable (commandFor j) j in
       record { joined = and-right k (joinedInRule j) (and-left (k && joinedInRule j) d h); accepted = and-right (k && joinedInRule j) d h }
 

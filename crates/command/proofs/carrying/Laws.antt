@@ -19,10 +19,10 @@ use Rattle.command.specs.Faults.{codesOf, listIf}
 use Rattle.command.specs.Judgement.{judgeWrite}
 use Rattle.command.specs.Response.{codesIn}
 use Rattle.command.specs.Controller.{transferOf, heldIn, transferInRule, transferStateAfter, bufferAfter, inRule}
-use Rattle.command.specs.Ruling.{codesTold, acceptable, acceptedAs, commandFor, inOrder, writable, broughtIn, meant, drawable, forged, itemsIn, itemsOf, itemsKept, sameItems, sameCommand, sameBytes, holds, writes, reads, noByte}
+use Rattle.command.specs.Ruling.{codesTold, acceptable, acceptedAs, commandFor, inOrder, writable, broughtIn, meant, drawable, forged, itemsIn, itemsOf, itemsKept, sameItems, sameCommand, sameBytes, holds, writes, reads, noWrong, transferOfKept}
 use Rattle.command.specs.Lent.{controllerOf, withoutHold, recordOf, performedOf}
 use Rattle.command.specs.Asking.{responseFor, carries, carryCall}
-use Rattle.command.specs.Inner.{openForIn, rulingInRule, ifWrite, acceptedBy, anyCode, transferOfKept, sameNumbers, Carries}
+use Rattle.command.specs.Inner.{openForIn, rulingInRule, ifWrite, acceptedBy, anyCode, sameNumbers, Carries}
 use Rattle.command.specs.declared.table.Command.{Command}
 use Rattle.command.specs.declared.table.Command.the-variants.{DisplayMode}
 use Rattle.command.specs.declared.table.Found.{Found}
@@ -116,7 +116,7 @@ pub record InRule (n : Ruling) : Type 0 where
 pub in-rule : (n : Ruling) → rulingInRule n ≡ true → InRule n
 in-rule n r =
     let t = transferOfKept (n .kept) in
-    let m = eqb (n .wrong) noByte && allowed DisplayMode (n .kept .mode ∷ []) in
+    let m = eqb (n .wrong) noWrong && allowed DisplayMode (n .kept .mode ∷ []) in
     let l = leb (heldIn t) (n .count) in
     let h = and-left (m && transferInRule t && l) (leb (n .count) 1024) r in
     record {

@@ -9,8 +9,8 @@ use Rattle.packet.proofs.Cases.{bool-cases, cond-cases}
 use Rattle.command.specs.Controller.{inRule}
 use Rattle.command.specs.Encoder.{refusalOf, lengthOf, outcomeTold}
 use Rattle.command.specs.Ruling.{forged, itemsOf, itemsKept, sameItems}
-use Rattle.command.specs.Asking.{Judging, onePacket, judgeCall, Carrying, carryCall}
-use Rattle.command.specs.Lent.{controllerOf, withoutHold, recordOf, noRuling, isWritten}
+use Rattle.command.specs.Asking.{Judging, onePacket, judgeCall, Carrying, carryCall, noRuling}
+use Rattle.command.specs.Lent.{controllerOf, withoutHold, recordOf, isWritten}
 use Rattle.imjarlet.specs.Exports.{numberOf, refusalSaid, Carries}
 use Rattle.command.specs.declared.controller.Controller.{Controller}
 use Rattle.command.specs.declared.settings.Settings.{Settings}

@@ -15,9 +15,9 @@ use Rattle.packet.proofs.NumberLaws.{bytes-at}
 use Rattle.packet.proofs.StreamLaws.{next-some, next-none, seven, size-most, payload-length}
 use Rattle.command.specs.Faults.{arrived}
 use Rattle.command.specs.Controller.{heldIn, transferIn, transferInRule, partsInRule}
-use Rattle.command.specs.Asking.{onePacket}
+use Rattle.command.specs.Asking.{onePacket, noRuling}
 use Rattle.command.specs.Ruling.{dataFor}
-use Rattle.command.specs.Lent.{withoutHold, recordOf, noRuling}
+use Rattle.command.specs.Lent.{withoutHold, recordOf}
 use Rattle.command.specs.Inner.{heldBy}
 use Rattle.command.specs.declared.judgement.Judgement.{Judgement}
 use Rattle.command.proofs.controller.Laws.{rule-parts}
@@ -107,7 +107,7 @@ module _ (e : tie.Else2) where
       ap (λ (i : ℕ). take i (drop 6 (bytes packet))) n
 
 -- and judged so
-module _ (g : tie.After-judge-packet) where
+module _ (g : tie.After-judge-bytes) where
   abbrev t : tie.After-transfer
   t = g .before .before
 
@@ -121,16 +121,16 @@ module _ (g : tie.After-judge-packet) where
   rule = ap transferInRule (t .transfer .ensures) ∙ rule-parts _ _ (in-rule (said (t .before .before) .before)) .transfer
 
   -- the data have room
-  fit : length buffer ≡ 1024 → length (dataFor (heldBy (t .transfer .result) buffer) (payload p) (g .judge-packet .result)) ≤ 1024
+  fit : length buffer ≡ 1024 → length (dataFor (heldBy (t .transfer .result) buffer) (payload p) (g .judge-bytes .result)) ≤ 1024
   fit n =
-      subst (λ (j : Judgement). length (dataFor (heldBy (t .transfer .result) buffer) (payload p) j) ≤ 1024) (sym (g .judge-packet .ensures))
+      subst (λ (j : Judgement). length (dataFor (heldBy (t .transfer .result) buffer) (payload p) j) ≤ 1024) (sym (g .judge-bytes .ensures))
       (rw (← held-is (t .transfer .result) rule buffer)
       (data-fit _ (transferIn (t .transfer .result) buffer) (arrived p)
       (omega (arith, ap length (held-is (t .transfer .result) rule buffer), length-take-le (heldIn (t .transfer .result)) buffer (omega (arith, held-most (t .transfer .result) rule)), held-most (t .transfer .result) rule))
       (payload-length p (whole (t .before)))))
 
-judge-packet-requires : tie.Need-judge-packet-requires
-judge-packet-requires c κs =
+judge-bytes-requires : tie.Need-judge-bytes-requires
+judge-bytes-requires c κs =
     let t = c .before in
     let e = t .before in
     let k = e .before in
@@ -175,11 +175,11 @@ returns-4 c =
     let s = came (e .before) in
     let b = body-is e in
     judges (s .args .settings) (s .args .r) (buffer g) (p g) (now (s .args .joined)) noRuling (in-rule (said (e .before) .before)) (there (e .before) .0) (whole e)
-    (t g .transfer .ensures) refl (g .judge-packet .ensures) (rw b at (k .keep .ensures .0)) (rw b at (k .keep .ensures .1)) (c .ruling .ensures)
+    (t g .transfer .ensures) refl (g .judge-bytes .ensures) (rw b at (k .keep .ensures .0)) (rw b at (k .keep .ensures .1)) (c .ruling .ensures)
 
 pub ask-spec : {M : Type 1} → statement M
 ask-spec =
     tie.close
     (tie.spec (λ c κs. search needs) (λ c κs. search needs) returns (λ c κs. search needs) (λ c. search needs) (λ c. search needs)
-    (λ c κs. search needs) returns-2 (λ c κs. search needs) returns-3 (λ c κs. search needs) judge-packet-requires sub-keep sub-keep-2
+    (λ c κs. search needs) returns-2 (λ c κs. search needs) returns-3 (λ c κs. search needs) judge-bytes-requires sub-keep sub-keep-2
     part-keep-start (λ c. search needs) keep-requires shared-slice-read-ruling shared-slice-read-ruling-2 ruling-requires returns-4)

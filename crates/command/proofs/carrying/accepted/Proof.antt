@@ -7,8 +7,8 @@ use borrow.Author.Needs.{needs}
 use borrow.Author.Tests.{eq-eqb, ne-eqb}
 use denote.Ref.{now}
 use lib.Dec.{eqb}
-use Rattle.command.specs.Ruling.{writes, reads}
-use Rattle.command.specs.Inner.{openForIn, transferOfKept, acceptedBy}
+use Rattle.command.specs.Ruling.{writes, reads, transferOfKept}
+use Rattle.command.specs.Inner.{openForIn, acceptedBy}
 use Rattle.command.specs.declared.table.Found.the-variants.{Known}
 use Rattle.command.specs.declared.judgement.Judgement.the-variants.{Read}
 use Rattle.command.proofs.carrying.accepted.Statement.{statement}

@@ -9,8 +9,8 @@ use borrow.Author.Needs.{needs}
 use borrow.Author.Tests.{eq-eqb, ne-eqb, not-true, not-false}
 use denote.Ref.{now}
 use Rattle.command.specs.Controller.{heldIn}
-use Rattle.command.specs.Ruling.{itemsIn, sameItems, sameBytes}
-use Rattle.command.specs.Inner.{sameNumbers, transferOfKept}
+use Rattle.command.specs.Ruling.{itemsIn, sameItems, sameBytes, transferOfKept}
+use Rattle.command.specs.Inner.{sameNumbers}
 use Rattle.command.proofs.transfer.Laws.{held-most}
 use Rattle.command.proofs.carrying.Laws.{same-items}
 use Rattle.command.proofs.carrying.current.Statement.{statement}

@@ -1,5 +1,6 @@
 -- `meaning` meets its contract: by its codes, and with none test by test.
 use mathlib.Core.Path.{_≡_, sym, ap, _∙_}
+use Rattle.command.specs.Ruling.{transferOfKept}
 use mathlib.Core.Bool.{Bool, true, cond}
 use mathlib.Core.Option.{none, some}
 use native.Mathlib.Omega.{arith}
@@ -10,7 +11,7 @@ use borrow.Author.Tests.{eq-eqb, ne-eqb, not-true, not-false}
 use denote.Ref.{now}
 use Rattle.command.specs.Controller.{heldIn}
 use Rattle.command.specs.Lent.{recordOf}
-use Rattle.command.specs.Inner.{rulingInRule, transferOfKept}
+use Rattle.command.specs.Inner.{rulingInRule}
 use Rattle.command.specs.declared.judgement.Judgement.the-variants.{Error}
 use Rattle.command.proofs.carrying.Laws.{drawn, drawn-told, drawn-out, drawn-unknown, drawn-known, InRule, in-rule, parts-join}
 use Rattle.command.proofs.carrying.meaning.Statement.{statement}

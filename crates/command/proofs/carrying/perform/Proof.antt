@@ -10,7 +10,7 @@ use Rattle.command.specs.Controller.{transferOf, transferInRule, partsIn
 use Rattle.command.specs.Ruling.{forged, meant, itemsOf, itemsKept, sameItems}
 use Rattle.command.specs.Asking.{carryCall}
 use Rattle.command.specs.Lent.{withoutHold, recordOf, isWritten}
-use Rattle.command.specs.Inner.{drawnOf}
+use Rattle.command.specs.Inner.{meantOf}
 use Rattle.command.specs.declared.ruling.JudgementRecord.{JudgementRecord}
 use Rattle.command.proofs.controller.Laws.{rule-parts}
 use Rattle.command.proofs.carrying.Laws.{drawn-none, drawn-some, carries-is, carry-call}
@@ -68,7 +68,7 @@ lent s = recordOf (s .args .n) (now (s .args .joined))
 
 -- the judgement is what the record means, and not forged
 drawn-so : (k : tie.After-current) → (forged (lent (start k)) ≡ false) × (met k .j .given .0 .0 ≡ meant (lent (start k)))
-drawn-so k = let x = met k in drawn-some (lent (start k)) (x .j .given .0 .0) (ap drawnOf (sym (x .j .given .1)) ∙ x .before .before .meaning .ensures)
+drawn-so k = let x = met k in drawn-some (lent (start k)) (x .j .given .0 .0) (ap meantOf (sym (x .j .given .1)) ∙ x .before .before .meaning .ensures)
 
 -- the last test is that of the kept items
 items : (k : tie.After-current) {b : Bool} → k .current .result ≡ b
@@ -83,8 +83,8 @@ returns-4 c =
     let i = items k (not-true (k .current .result) (c .before .if3 .taken)) in
     rw (c .untouched4 .ensures, le-ltb _ 64 (passed e .0), passed e .1, drawn-so k .0, i) (refl, refl)
 
-settle-requires : tie.Need-settle-requires
-settle-requires c κs =
+carry-record-requires : tie.Need-carry-record-requires
+carry-record-requires c κs =
     let k = c .before .before .before .before in
     let e = branch k in
     let m : length (now (start k .args .joined)) ≡ 1024 = search needs in
@@ -99,7 +99,7 @@ returns-5 c =
     let a = start k .args in
     let d = drawn-so k in
     let i = items k (not-false (k .current .result) (f .if3 .left)) in
-    let z = rw (d .1) at (w .settle .ensures) in (
+    let z = rw (d .1) at (w .carry-record .ensures) in (
       carries-is (a .settings) (a .r) (now (a .buffer)) (a .n) (now (a .joined)) (d .0) i z
           ∙ sym (carry-call (a .settings) (a .r) (now (a .buffer)) (a .n) (now (a .joined)) (d .0) i (now (a .out)) (passed e .0) (passed e .1)),
       z .stored ∙ sym (ap isWritten (z .answer)),
@@ -109,4 +109,4 @@ pub perform-spec : {M : Type 1} → statement M
 perform-spec =
     tie.close
     (tie.spec (λ c κs. search needs) returns (λ c κs. search needs) (λ c κs. search needs) returns-2 (λ c κs. search needs) (λ c. search needs) (λ c. search needs)
-    (λ c κs. search needs) returns-3 (λ c κs. search needs) current-requires (λ c κs. search needs) returns-4 settle-requires (λ c. search needs) returns-5)
+    (λ c κs. search needs) returns-3 (λ c κs. search needs) current-requires (λ c κs. search needs) returns-4 carry-record-requires (λ c. search needs) returns-5)

@@ -92,8 +92,8 @@ counted c =
 abbrev part : tie.After-buffer2 Inv-loop μ-loop → tie.After-size Inv-loop μ-loop
 part c = c .before .before .before .before .before .before .before .before .before
 
-judge-packet-requires : tie.Need-judge-packet-requires Inv-loop μ-loop
-judge-packet-requires c κs =
+judge-bytes-requires : tie.Need-judge-bytes-requires Inv-loop μ-loop
+judge-bytes-requires c κs =
     let k = c .before .before .before in
     let l = k .before .before .before .before in
     let t = turn k in
@@ -119,13 +119,13 @@ loop-again c =
     let o = l .loop in
     let t = turn k in
     let p = take (k .size .given .0 .0) (drop (l .loop .at) (now (l .before .before .before .before .args .b))) in
-    let j = rw (handed k) at (g .judge-packet .ensures) in
+    let j = rw (handed k) at (g .judge-bytes .ensures) in
     let x = rw (handed k) at (c .transfer-after .ensures .0) in
     let y = rw (handed k) at (c .transfer-after .ensures .1) in
     let z = ap (λ (i : ℕ). take (i - 1 - 6) (drop 6 p)) (sym (counted k .0)) in (
       t .within,
       rw x (rule-kept (o .settings) (o .transfer) (o .buffer) p (o .inv .1) (o .inv .2) (t .whole) z j),
-      rw y (buffer-kept (o .transfer) (o .buffer) _ (g .judge-packet .result) ∙ o .inv .2),
+      rw y (buffer-kept (o .transfer) (o .buffer) _ (g .judge-bytes .result) ∙ o .inv .2),
       rw (
         c .before .before .before .settings-after .ensures,
         x,
@@ -170,7 +170,7 @@ play-spec =
     (λ c. omega (arith, within (c .before))) (λ c. search needs) (λ c. search needs)
     (λ c. let h = turn (c .before) .within in omega arith)
     (λ c. let l = c .before .before .before .before .before .before .before in omega (arith, l .loop .inv .2))
-    judge-packet-requires (λ c κs. search needs) (λ c κs. search needs) (λ c κs. search needs) (λ c κs. search needs)
+    judge-bytes-requires (λ c κs. search needs) (λ c κs. search needs) (λ c κs. search needs) (λ c κs. search needs)
     (λ c. omega (arith, turn (part c) .least)) (λ c. omega (arith, turn (part c) .least)) (λ c. omega (arith, turn (part c) .least))
     (λ c. let h = counted (part c) .0 in rw (handed (part c)) (omega (arith, turn (part c) .least, h)))
     transfer-after-requires (λ c. omega (arith, within (c .before .before .before .before .before .before .before .before .before .before .before)))

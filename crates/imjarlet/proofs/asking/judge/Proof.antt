@@ -5,8 +5,8 @@ use mathlib.Core.Bool.{cond}
 use lib.Dec.{eqb}
 use denote.Ref.{now}
 use borrow.Author.Needs.{needs}
-use Rattle.command.specs.Asking.{Judging, judgeCall}
-use Rattle.command.specs.Lent.{withoutHold, recordOf, noRuling}
+use Rattle.command.specs.Asking.{Judging, judgeCall, noRuling}
+use Rattle.command.specs.Lent.{withoutHold, recordOf}
 use Rattle.imjarlet.specs.Exports.{numberOf, refusalSaid}
 use Rattle.imjarlet.proofs.asking.Laws.{judge-says, another}
 use Rattle.imjarlet.proofs.asking.judge.Statement.{statement}

@@ -1,4 +1,4 @@
--- `settle` meets its contract: `carry` is called with what the packet brought.
+-- `carry_record` meets its contract: `carry` is called with what the packet brought.
 use mathlib.Core.Path.{_≡_, refl, ap, _∙_}
 use native.Mathlib.Omega.{arith}
 use borrow.Author.Needs.{needs}
@@ -7,8 +7,8 @@ use Rattle.command.specs.Controller.{transferOf, heldIn}
 use Rattle.command.specs.Encoder.{Writes}
 use Rattle.command.proofs.transfer.Laws.{held-most}
 use Rattle.command.proofs.carrying.Laws.{part-is}
-use Rattle.command.proofs.carrying.settle.Statement.{statement}
-use Rattle.command.proofs.carrying.settle.Tie as tie
+use Rattle.command.proofs.carrying.carry_record.Statement.{statement}
+use Rattle.command.proofs.carrying.carry_record.Tie as tie
 
 -- how many bytes are held
 counted : (h : tie.After-held) → h .held .result ≡ heldIn (transferOf (h .before .before .before .before .args .r))
@@ -39,8 +39,8 @@ returns c =
       output = y .carry .ensures .4;
     }
 
-pub settle-spec : {M : Type 1} → statement M
-settle-spec =
+pub carry-record-spec : {M : Type 1} → statement M
+carry-record-spec =
     tie.close
     (tie.spec (λ c κs. search needs) (λ c κs. search needs) (λ c. search needs) end-requires (λ c. search needs) (λ c. search needs) (λ c. search needs)
     (λ c κs. search needs) (λ c. search needs) returns)
