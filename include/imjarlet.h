@@ -61,7 +61,8 @@ enum {
     IMJARLET_LAST = 0x03
 };
 
-/* The payload of an error packet: one byte for each code, ascending. */
+/* The payload of an error packet: one byte for each code, ascending. No packet draws the guide's codes 01, 05,
+   06 and 08; a judgement that is handed in may have them, and they are sent then. */
 enum {
     IMJARLET_CODE_COMMAND = 0x02,   /* type neither 02 nor 04, command not in the table, or a read of 01 06 */
     IMJARLET_CODE_VALUE = 0x03,     /* a value is not allowed */

@@ -151,7 +151,8 @@ pub struct Controller {
 }
 
 /// What a packet was judged under: the display mode, and the open transfer, its command and how many bytes
-/// were held. None was open where `active` is 0; the other three are then what stood there.
+/// were held. None was open where `active` is 0; the other three are then what stood there, and count for
+/// nothing (`held` is at most 1,024 even so).
 #[repr(C)]
 #[derive(Clone, Copy, PartialEq, Eq, Debug)]
 pub struct Kept {
@@ -208,13 +209,14 @@ const _: () = {
     assert!(offset_of!(raw::Verdict, settings) == 24 && size_of::<raw::Verdict>() == 80);
 };
 
-/// What a call refuses. It then takes nothing and leaves output and controller as they were.
+/// What a call refuses. It then takes nothing and leaves output, controller and judgement as they were.
 #[derive(Clone, Copy, PartialEq, Eq, Debug)]
 pub enum Refusal {
     /// 1: the output is shorter than 64 bytes, or 128 for the standard list.
     ShortOutput,
     /// 2: the encoder was given a value that is not allowed, or a command that is not in the table; or a
-    /// judgement without error codes was to be carried out that no packet draws.
+    /// judgement without error codes was to be carried out that no packet draws from a controller that 3 lets
+    /// pass and that has what the judgement keeps.
     NotAllowed,
     /// 3: the controller or the settings are out of rule.
     OutOfRule,
@@ -306,6 +308,10 @@ pub mod raw {
     pub const NO_WRONG_BYTE: u64 = u64::MAX;
     /// What a judgement says there.
     pub const JUDGED_NO_WRONG_BYTE: u16 = u16::MAX;
+    // What a judgement asks to be done.
+    pub const ACCEPTS_HOLD: u16 = 1;
+    pub const ACCEPTS_WRITE: u16 = 2;
+    pub const ACCEPTS_READ: u16 = 3;
 
     /// What is said of a report: the trial's number, score and end settings, or the place.
     #[repr(C)]
@@ -467,9 +473,9 @@ impl Ruling {
     /// What is asked to be done: nothing with an error, nor by a number that no judgement has.
     pub fn asks(&self) -> Option<Asks> {
         match (self.codes, self.accepts) {
-            (0, 1) => Some(Asks::Hold),
-            (0, 2) => Some(Asks::Write),
-            (0, 3) => Some(Asks::Read),
+            (0, raw::ACCEPTS_HOLD) => Some(Asks::Hold),
+            (0, raw::ACCEPTS_WRITE) => Some(Asks::Write),
+            (0, raw::ACCEPTS_READ) => Some(Asks::Read),
             _ => None,
         }
     }

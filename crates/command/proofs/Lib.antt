@@ -6,6 +6,7 @@ pub mod Request2
 pub mod Request4
 pub mod Request5
 pub use Rattle.command.proofs.table.Laws as TableLaws
+pub use Rattle.command.proofs.data.Laws as DataLaws
 pub use Rattle.command.proofs.rules.Laws as RulesLaws
 pub use Rattle.command.proofs.judgement.Laws as JudgementLaws
 pub use Rattle.command.proofs.player.Laws as PlayerLaws

@@ -9,7 +9,7 @@ use lib.ListN.{length, take, drop}
 use Rattle.packet.specs.Packet.{cmd1Of, cmd2Of, payload}
 use Rattle.command.specs.Table.{commandOf, layout, sizeOf, readable}
 use Rattle.command.specs.Rules.{allowed, blocked}
-use Rattle.command.specs.Data.{splitAll}
+use Rattle.command.specs.Data.{splitAll, sameList}
 use Rattle.command.specs.Value.{valueFrom}
 use Rattle.command.specs.Transfer.{Transfer, isOpen, held, openFor}
 use Rattle.command.specs.Response.{codesIn, wrongIn}
@@ -243,11 +243,5 @@ sameCommand none (some d) = false
 sameCommand (some c) none = false
 sameCommand (some c) (some d) = eqb (c .0) (d .0) && eqb (c .1) (d .1)
 
-abbrev pub sameBytes : List ℕ → List ℕ → Bool
-sameBytes [] [] = true
-sameBytes [] (y ∷ ys) = false
-sameBytes (x ∷ xs) [] = false
-sameBytes (x ∷ xs) (y ∷ ys) = eqb x y && sameBytes xs ys
-
 unfoldable pub sameItems : Items → Items → Bool
-sameItems a b = eqb (a .mode) (b .mode) && sameCommand (a .command) (b .command) && eqb (a .count) (b .count) && sameBytes (a .held) (b .held)
+sameItems a b = eqb (a .mode) (b .mode) && sameCommand (a .command) (b .command) && eqb (a .count) (b .count) && sameList (a .held) (b .held)

@@ -30,7 +30,8 @@ ghost use mathlib.Core.Option.{none, some};
 ghost use Prim.Native.Nat.{_≤_, _<_};
 ghost use lib.ListN.{length};
 ghost use Rattle.command.specs.Controller.{transferOf, transferInRule};
-ghost use Rattle.command.specs.Ruling.{forged, meant, itemsIn, sameItems, sameBytes as sameBytesOf, transferOfKept};
+ghost use Rattle.command.specs.Ruling.{forged, meant, itemsIn, sameItems, transferOfKept};
+ghost use Rattle.command.specs.Data.{sameList};
 ghost use Rattle.command.specs.Asking.{outcomeOf, carryCall};
 ghost use Rattle.command.specs.Lent.{withoutHold, recordOf, performedOf, performedExactly};
 ghost use Rattle.command.specs.Inner.{sameNumbers, rulingInRule, acceptedBy, meantOf, Carries};
@@ -123,7 +124,7 @@ fn meaning(n: Ruling, joined: &[u8]) -> Meant
 // Both slices have the same bytes.
 fn same_bytes(a: &[u8], b: &[u8]) -> bool
     requires { ⌜ length (now a) ≡ length (now b) ⌝ }
-    ensures { λ r. ⌜ r ≡ sameBytesOf (now (a .entry)) (now (b .entry)) ⌝ }
+    ensures { λ r. ⌜ r ≡ sameList (now (a .entry)) (now (b .entry)) ⌝ }
 {
     let mut i: usize = 0;
     while i < a.len() {

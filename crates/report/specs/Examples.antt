@@ -12,7 +12,8 @@ use Rattle.command.specs.declared.table.Command.{Command}
 use Rattle.command.specs.declared.table.Command.the-variants.{DisplayMode, TestPattern, LedCurrent, StaticColour, DisplaySetting, VideoInput, VideoMode, PatternSequence, SequenceRun}
 use Rattle.command.specs.Response.{codesIn, wrongIn}
 use Rattle.command.specs.Player.{State, from, judged, next, answersTo, play, offence}
-use Rattle.report.specs.Report.{sameList, verdict}
+use Rattle.command.specs.Data.{sameList}
+use Rattle.report.specs.Report.{verdict}
 use Rattle.report.specs.Line.{textOf, lineOf}
 
 pub data Example : Type 0 where

@@ -1,12 +1,13 @@
 -- The tuning report: how it is read, its trials played one after another, and the verdict.
 use Prim.Native.Nat.{ℕ, zero, suc, _+_}
-use mathlib.Core.Bool.{Bool, true, false, not, _&&_}
+use mathlib.Core.Bool.{Bool, true, not, _&&_}
 use mathlib.Core.List.{List, [], _∷_}
 use lib.Dec.{eqb, leb, ltb}
 use lib.ListN.{length, take, drop}
 use Rattle.packet.specs.Number.{valueOf}
 use Rattle.command.specs.Table.{table}
 use Rattle.command.specs.Settings.{valuesOf, factory}
+use Rattle.command.specs.Data.{sameList}
 use Rattle.command.specs.declared.settings.Settings.{Settings}
 use Rattle.command.specs.declared.table.Command.{Command}
 use Rattle.command.specs.Player.{play, isNil, offence}
@@ -89,13 +90,6 @@ earlierAbove n (suc k) (t ∷ ts) = ltb n (t .score) && earlierAbove n k ts
 -- the first of the lowest-scored: none scores below it and all earlier ones score above it
 unfoldable pub firstLowest : List Trial → ℕ → Bool
 firstLowest ts k = noneBelow (scoreAt ts k) ts && earlierAbove (scoreAt ts k) k ts
-
--- the same numbers in the same order
-unfoldable pub sameList : List ℕ → List ℕ → Bool
-sameList [] [] = true
-sameList [] (y ∷ ys) = false
-sameList (x ∷ xs) [] = false
-sameList (x ∷ xs) (y ∷ ys) = eqb x y && sameList xs ys
 
 -- each of these commands passes the test
 unfoldable pub every : (Command → Bool) → List Command → Bool

@@ -8,7 +8,8 @@ use command::VideoInput;
 use command::VideoMode;
 ghost use mathlib.Core.Path.{_≡_};
 ghost use Rattle.command.specs.Fields.{currentValues, colourValues, settingValues, inputValues, videoValues, sequenceValues};
-ghost use Rattle.report.specs.Report.{sameList, sameSettings};
+ghost use Rattle.command.specs.Data.{sameList};
+ghost use Rattle.report.specs.Report.{sameSettings};
 
 fn same_current(a: LedCurrent, b: LedCurrent) -> bool
     ensures { λ r. ⌜ r ≡ sameList (currentValues a) (currentValues b) ⌝ }

@@ -156,13 +156,23 @@ fn transfer(active: u8, cmd1: u8, cmd2: u8, held: u16, buffer: &[u8]) {
 }
 
 fn accepted(accepts: u16) {
-    match accepts {
-        0 => text(b"error"),
-        1 => text(b"hold"),
-        2 => text(b"write"),
-        3 => text(b"read"),
-        _ => text(b"of no known kind"),
+    if accepts == 0 {
+        text(b"error");
+        return;
     }
+    if accepts == command::HOLDS {
+        text(b"hold");
+        return;
+    }
+    if accepts == command::WRITES {
+        text(b"write");
+        return;
+    }
+    if accepts == command::READS {
+        text(b"read");
+        return;
+    }
+    text(b"of no known kind");
 }
 
 // The codes of which the bits are set.

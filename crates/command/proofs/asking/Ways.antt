@@ -3,18 +3,20 @@ use Prim.Native.Nat.{ℕ, _<_, _≤_}
 use mathlib.Core.Path.{_≡_, refl, ap, sym, _∙_}
 use mathlib.Core.Logic.{_↔_}
 use mathlib.Core.Bool.{Bool, true, false, _&&_}
-use mathlib.Core.List.{List, [], _∷_}
+use mathlib.Core.List.{List}
 use mathlib.Core.Option.{Option, none, some}
 use lib.Dec.{eqb, ltb}
 use lib.ListN.{length}
 use borrow.Author.Tests.{ltb-true, ltb-false, eq-eqb, eqb-true}
 use Rattle.packet.proofs.Cases.{cond-cases, and-left, and-right, and-both, never}
 use Rattle.command.specs.Controller.{inRule}
-use Rattle.command.specs.Ruling.{forged, Items, itemsOf, itemsKept, sameCommand, sameBytes, sameItems}
+use Rattle.command.specs.Ruling.{forged, Items, itemsOf, itemsKept, sameCommand, sameItems}
+use Rattle.command.specs.Data.{sameList}
 use Rattle.command.specs.Asking.{Carrying, refused, carries, carryCall}
 use Rattle.command.specs.Demand1.{OutOfRule}
 use Rattle.command.specs.declared.controller.Controller.{Controller}
 use Rattle.command.specs.declared.ruling.JudgementRecord.{JudgementRecord}
+use Rattle.command.proofs.data.Laws.{list-true, list-refl}
 use Rattle.command.proofs.Refusals.{controller-out}
 
 -- a test of four parts
@@ -26,17 +28,13 @@ all-of-four a b c d h =
 
 -- The same kept items.
 
-bytes-self : (b : List ℕ) → sameBytes b b ≡ true
-bytes-self [] = refl
-bytes-self (x ∷ b) = and-both _ _ (eq-eqb x x refl) (bytes-self b)
-
 command-self : (c : Option (ℕ × ℕ)) → sameCommand c c ≡ true
 command-self none = refl
 command-self (some c) = and-both _ _ (eq-eqb (c .0) (c .0) refl) (eq-eqb (c .1) (c .1) refl)
 
 pub same-self : (i : Items) → sameItems i i ≡ true
 unfolding sameItems
-same-self i = rw (eq-eqb (i .mode) (i .mode) refl, command-self (i .command), eq-eqb (i .count) (i .count) refl, bytes-self (i .held))
+same-self i = rw (eq-eqb (i .mode) (i .mode) refl, command-self (i .command), eq-eqb (i .count) (i .count) refl, list-refl (i .held))
 
 same-command : (x y : Option (ℕ × ℕ)) → sameCommand x y ≡ true → x ≡ y
 same-command none none h = refl
@@ -50,15 +48,6 @@ same-command (some c) (some d) h =
     pair-eq : c .0 ≡ d .0 → c .1 ≡ d .1 → c ≡ d
     pair-eq a b = λ i. (a i, b i)
 
-same-bytes : (a b : List ℕ) → sameBytes a b ≡ true → a ≡ b
-same-bytes [] [] h = refl
-same-bytes [] (y ∷ b) h = never h
-same-bytes (x ∷ a) [] h = never h
-same-bytes (x ∷ a) (y ∷ b) h =
-    let e : x ≡ y = eqb-true x y (and-left _ (sameBytes a b) h) in
-    let r : a ≡ b = same-bytes a b (and-right (eqb x y) _ h) in
-    cc
-
 items-eq : {a b : Items} → a .mode ≡ b .mode → a .command ≡ b .command → a .count ≡ b .count → a .held ≡ b .held → a ≡ b
 items-eq e f g h = λ i. record { mode = e i; command = f i; count = g i; held = h i }
 
@@ -67,9 +56,9 @@ unfolding sameItems
 same-exactly a b = (
   λ h.
       let s =
-      all-of-four (eqb (a .mode) (b .mode)) (sameCommand (a .command) (b .command)) (eqb (a .count) (b .count)) (sameBytes (a .held) (b .held)) h in
+      all-of-four (eqb (a .mode) (b .mode)) (sameCommand (a .command) (b .command)) (eqb (a .count) (b .count)) (sameList (a .held) (b .held)) h in
       items-eq (eqb-true (a .mode) (b .mode) (s .0)) (same-command (a .command) (b .command) (s .1)) (eqb-true (a .count) (b .count) (s .2))
-      (same-bytes (a .held) (b .held) (s .3)),
+      (list-true (a .held) (b .held) (s .3)),
   λ e. rw e (same-self b),
 )
 

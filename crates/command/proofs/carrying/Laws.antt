@@ -13,13 +13,13 @@ use borrow.Author.Tests.{eqb-true, leb-true, le-ltb, not-false}
 use Rattle.packet.proofs.Cases.{bool-cases, and-left, and-right}
 use Rattle.command.specs.Table.{commandOf, layout, sizeOf}
 use Rattle.command.specs.Rules.{allowed, blocked}
-use Rattle.command.specs.Data.{splitAll}
+use Rattle.command.specs.Data.{splitAll, sameList}
 use Rattle.command.specs.Value.{valueFrom}
 use Rattle.command.specs.Faults.{codesOf, listIf}
 use Rattle.command.specs.Judgement.{judgeWrite}
 use Rattle.command.specs.Response.{codesIn}
 use Rattle.command.specs.Controller.{transferOf, heldIn, transferInRule, transferStateAfter, bufferAfter, inRule}
-use Rattle.command.specs.Ruling.{codesTold, acceptable, acceptedAs, commandFor, inOrder, writable, broughtIn, meant, drawable, forged, itemsIn, itemsOf, itemsKept, sameItems, sameCommand, sameBytes, holds, writes, reads, noWrong, transferOfKept}
+use Rattle.command.specs.Ruling.{codesTold, acceptable, acceptedAs, commandFor, inOrder, writable, broughtIn, meant, drawable, forged, itemsIn, itemsOf, itemsKept, sameItems, sameCommand, holds, writes, reads, noWrong, transferOfKept}
 use Rattle.command.specs.Lent.{controllerOf, withoutHold, recordOf, performedOf}
 use Rattle.command.specs.Asking.{responseFor, carries, carryCall}
 use Rattle.command.specs.Inner.{openForIn, rulingInRule, ifWrite, acceptedBy, anyCode, sameNumbers, Carries}
@@ -41,7 +41,8 @@ use Rattle.command.proofs.transfer.Laws.{open-is, open-for-is}
 
 -- Bytes from a place on are the same where the two at it are, and those behind them.
 pub same-more : (a b : List ℕ) (i : ℕ) → length a ≡ length b → i < length a
-    → sameBytes (drop i a) (drop i b) ≡ (eqb (getD a i 0) (getD b i 0) && sameBytes (drop (i + 1) a) (drop (i + 1) b))
+    → sameList (drop i a) (drop i b) ≡ (eqb (getD a i 0) (getD b i 0) && sameList (drop (i + 1) a) (drop (i + 1) b))
+unfolding sameList
 same-more a b i l h = let k : i < length b = omega arith in rw (add-one, drop-cons a i 0, drop-cons b i 0)
 
 -- The kept items.
@@ -61,7 +62,7 @@ same-held t k h =
 
 -- of transfers with the same numbers as many bytes are looked at
 pub same-items : (m n : ℕ) (t k : TransferState) (a b : List ℕ)
-    → sameItems (itemsIn m t a) (itemsIn n k b) ≡ (eqb m n && sameNumbers t k && sameBytes (take (heldIn t) a) (take (heldIn t) b))
+    → sameItems (itemsIn m t a) (itemsIn n k b) ≡ (eqb m n && sameNumbers t k && sameList (take (heldIn t) a) (take (heldIn t) b))
 unfolding sameItems
 same-items m n t k a b =
     rw (and-assoc (eqb m n), same-numbers t k)
@@ -199,7 +200,7 @@ module _
       let k = transferOfKept (n .kept) in
       same-held t k
       (and-right (eqb (s .mode) (n .kept .mode)) (sameNumbers t k)
-      (and-left (eqb (s .mode) (n .kept .mode) && sameNumbers t k) (sameBytes (take (heldIn t) buffer) (take (heldIn t) d))
+      (and-left (eqb (s .mode) (n .kept .mode) && sameNumbers t k) (sameList (take (heldIn t) buffer) (take (heldIn t) d))
       (sym (same-items (s .mode) (n .kept .mode) t k buffer d) ∙ i)))
 
   -- data that are held are drawn by a packet, and are in rule

@@ -2,14 +2,18 @@
 use Prim.Native.Nat.{ℕ, suc, _<_, _≤_, zero, _+_, _*_, _^_}
 use mathlib.Core.Path.{_≡_, refl, ap, ap₂, sym, _∙_}
 use mathlib.Core.List.{List, [], _∷_, _++_, append-nil, append-assoc}
+use mathlib.Core.Bool.{true}
 use native.Mathlib.Nat.{add-zero}
 use native.Mathlib.Omega.{arith}
+use lib.Dec.{eqb}
+use borrow.Author.Tests.{eq-eqb, eqb-true}
 use lib.ListN.{length, take, drop, length-append, take-append-drop, length-drop, getD}
 use lib.Seq.{take-at, drop-at, length-take-le, drop-drop, getD-drop}
 use Rattle.packet.specs.Number.{valueOf, bytesOf, Bytes}
 use Rattle.packet.specs.Packet.{sum}
+use Rattle.packet.proofs.Cases.{and-left, and-right, and-both}
 use Rattle.packet.proofs.NumberLaws.{bytes-take, bytes-drop, value-bytes, length-bytes, bytes-value, value-bound}
-use Rattle.command.specs.Data.{splitAll, joinAll, Fit}
+use Rattle.command.specs.Data.{splitAll, joinAll, Fit, sameList}
 use Rattle.command.specs.Inner.{Holds, total, numberAt, splitFrom, joinOnto}
 use Rattle.command.specs.Table.{layout, sizeOf}
 use Rattle.command.specs.declared.table.Command.{Command}
@@ -102,3 +106,18 @@ join-onto d (w ∷ ws) (v ∷ vs) = join-onto (d ++ bytesOf w v) ws vs ∙ appen
 -- data put together field by field
 pub holds-join : (r : Data) (ws vs : List ℕ) → Holds r (joinOnto [] ws vs) → Holds r (joinAll ws vs)
 holds-join r ws vs h = rw (join-onto [] ws vs) at h
+
+-- The same numbers in the same order are the same list.
+
+pub list-true : (a b : List ℕ) → sameList a b ≡ true → a ≡ b
+unfolding sameList
+list-true [] [] h = refl
+list-true [] (y ∷ b) h = cc
+list-true (x ∷ a) [] h = cc
+list-true (x ∷ a) (y ∷ b) h =
+    ap₂ {C = List ℕ} (λ u t. u ∷ t) (eqb-true x y (and-left (eqb x y) (sameList a b) h)) (list-true a b (and-right (eqb x y) (sameList a b) h))
+
+pub list-refl : (a : List ℕ) → sameList a a ≡ true
+unfolding sameList
+list-refl [] = refl
+list-refl (x ∷ a) = and-both (eqb x x) (sameList a a) (eq-eqb x x refl) (list-refl a)

@@ -1,30 +1,16 @@
 -- Settings with the same values of every command are equal.
-use Prim.Native.Nat.{ℕ}
-use mathlib.Core.Path.{_≡_, refl, ap, ap₂, fun-ext}
+use mathlib.Core.Path.{_≡_, refl, ap, fun-ext}
 use mathlib.Core.Bool.{Bool, true}
 use mathlib.Core.List.{List, [], _∷_}
-use lib.Dec.{eqb}
-use borrow.Author.Tests.{eq-eqb, eqb-true}
 use Rattle.packet.proofs.Cases.{and-left, and-right, and-both}
 use Rattle.command.specs.Table.{table}
 use Rattle.command.specs.Settings.{valuesOf, settingsOf}
 use Rattle.command.specs.declared.settings.Settings.{Settings}
 use Rattle.command.specs.declared.table.Command.{Command}
+use Rattle.command.specs.Data.{sameList}
 use Rattle.command.proofs.TableLaws.{each}
-use Rattle.report.specs.Report.{sameList, every, sameSettings}
-
-list-true : (a b : List ℕ) → sameList a b ≡ true → a ≡ b
-unfolding sameList
-list-true [] [] h = refl
-list-true [] (y ∷ b) h = cc
-list-true (x ∷ a) [] h = cc
-list-true (x ∷ a) (y ∷ b) h =
-    ap₂ {C = List ℕ} (λ u t. u ∷ t) (eqb-true x y (and-left (eqb x y) (sameList a b) h)) (list-true a b (and-right (eqb x y) (sameList a b) h))
-
-list-refl : (a : List ℕ) → sameList a a ≡ true
-unfolding sameList
-list-refl [] = refl
-list-refl (x ∷ a) = and-both (eqb x x) (sameList a a) (eq-eqb x x refl) (list-refl a)
+use Rattle.command.proofs.DataLaws.{list-true, list-refl}
+use Rattle.report.specs.Report.{every, sameSettings}
 
 abbrev Every : (Command → Type 0) → List Command → Type 0
 Every P [] = Unit {0}

@@ -9,7 +9,8 @@ use borrow.Author.Needs.{needs}
 use borrow.Author.Tests.{eq-eqb, ne-eqb, not-true, not-false}
 use denote.Ref.{now}
 use Rattle.command.specs.Controller.{heldIn}
-use Rattle.command.specs.Ruling.{itemsIn, sameItems, sameBytes, transferOfKept}
+use Rattle.command.specs.Data.{sameList}
+use Rattle.command.specs.Ruling.{itemsIn, sameItems, transferOfKept}
 use Rattle.command.specs.Inner.{sameNumbers}
 use Rattle.command.proofs.transfer.Laws.{held-most}
 use Rattle.command.proofs.carrying.Laws.{same-items}
@@ -23,7 +24,7 @@ Same s b =
 
 items : (s : tie.Start)
     → let a = s .args in
-    Same s (eqb (a .mode) (a .kept .mode) && sameNumbers (a .t) (transferOfKept (a .kept)) && sameBytes (take (heldIn (a .t)) (now (a .buffer))) (take (heldIn (a .t)) (now (a .joined))))
+    Same s (eqb (a .mode) (a .kept .mode) && sameNumbers (a .t) (transferOfKept (a .kept)) && sameList (take (heldIn (a .t)) (now (a .buffer))) (take (heldIn (a .t)) (now (a .joined))))
 items s = let a = s .args in same-items (a .mode) (a .kept .mode) (a .t) (transferOfKept (a .kept)) (now (a .buffer)) (now (a .joined))
 
 returns : tie.Need-returns
@@ -34,7 +35,7 @@ returns c =
 -- the modes are the same: by the numbers of the transfers
 numbers : (m : tie.After-same-transfer) {b : Bool} → m .same-transfer .result ≡ b
     → let s = m .before .before .before .before .before .before in
-    Same s (b && sameBytes (take (heldIn (s .args .t)) (now (s .args .buffer))) (take (heldIn (s .args .t)) (now (s .args .joined))))
+    Same s (b && sameList (take (heldIn (s .args .t)) (now (s .args .buffer))) (take (heldIn (s .args .t)) (now (s .args .joined))))
 numbers m e =
     let t = m .before in
     let s = t .before .before .before .before .before in

@@ -5,13 +5,13 @@ use native.Mathlib.Omega.{arith}
 use lib.ListN.{length, drop, drop-of-length-le}
 use borrow.Author.Needs.{needs}
 use borrow.Author.Tests.{eq-eqb, ne-eqb}
-use Rattle.command.specs.Ruling.{sameBytes}
+use Rattle.command.specs.Data.{sameList}
 use Rattle.command.proofs.carrying.Laws.{same-more}
 use Rattle.command.proofs.carrying.same_bytes.Statement.{statement}
 use Rattle.command.proofs.carrying.same_bytes.Tie as tie
 
 abbrev Inv-loop : tie.InvT-loop
-Inv-loop a b i₀ i = (i ≤ length a) × (sameBytes a b ≡ sameBytes (drop i a) (drop i b))
+Inv-loop a b i₀ i = (i ≤ length a) × (sameList a b ≡ sameList (drop i a) (drop i b))
 
 abbrev μ-loop : tie.MeasureT-loop
 μ-loop a b i₀ i = length a - i
@@ -29,6 +29,7 @@ loop-again c =
     (search needs, w .loop .inv .1 ∙ same-more (a .a .now) (a .b .now) (w .loop .i) (w .before .pre) (search needs) ∙ rw (eq-eqb _ _ (c .if1 .left)))
 
 returns-2 : tie.Need-returns-2 Inv-loop μ-loop
+unfolding sameList
 returns-2 c =
     let w = c .before in
     let a = w .before .args in

@@ -5,7 +5,8 @@ use mathlib.Core.Bool.{and-assoc, and-true}
 use mathlib.Core.List.{[], _∷_}
 use lib.Dec.{eqb}
 use borrow.Author.Needs.{needs}
-use Rattle.report.specs.Report.{every, sameList, sameSettings}
+use Rattle.command.specs.Data.{sameList}
+use Rattle.report.specs.Report.{every, sameSettings}
 use Rattle.report.proofs.same.same_settings.Statement.{statement}
 use Rattle.report.proofs.same.same_settings.Tie as tie
 
