@@ -3,7 +3,7 @@ use crate::controller::Controller;
 use crate::controller::Registers;
 use crate::controller::in_rule;
 use crate::judgement::Judgement;
-use crate::judgement::judge_bytes;
+use crate::judgement::judge;
 use crate::response::response_type;
 use crate::ruling::JudgementRecord;
 use crate::ruling::Kept;
@@ -114,10 +114,12 @@ pub fn ask(
         return refused(Asked::NotOnePacket);
     }
     let t = r.transfer();
-    let j = judge_bytes(settings.mode, t, buffer, input, right);
-    let count = keep(t, buffer, &input[HEADER..size - 1], j, joined);
+    let header = [input[0], input[1], input[2], input[3], input[4], input[5]];
+    let payload = &input[HEADER..size - 1];
+    let j = judge(settings.mode, t, header, right, buffer, payload);
+    let count = keep(t, buffer, payload, j, joined);
     Asking {
-        ruling: ruling(settings, r, input[1], input[2], count, j),
+        ruling: ruling(settings, r, header[1], header[2], count, j),
         answer: Asked::Judged,
     }
 }

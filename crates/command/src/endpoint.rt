@@ -1,11 +1,13 @@
 // The receive call: it takes bytes until the input ends or one packet is complete, and answers that
 // packet.
-use crate::carry::carry;
+use crate::carry::settings_after;
+use crate::carry::transfer_after;
 use crate::controller::Controller;
 use crate::controller::Registers;
 use crate::controller::in_rule;
 use crate::judgement::judge;
 use crate::output::OUTPUT;
+use crate::response::respond;
 use crate::rules::WrongByte;
 use crate::settings::Settings;
 use crate::transfer::HOLD;
@@ -59,18 +61,16 @@ fn settle(
     let header = r.header;
     let n = kept(packet::word(header[4], header[5]));
     let payload = &hold[..n];
-    let j = judge(settings.mode, r.transfer(), header, right, buffer, payload);
-    let s = carry(settings, r, buffer, header[1], header[2], payload, j, out);
-    let after = s.settings;
-    let registers = s.registers;
+    let t = r.transfer();
+    let j = judge(settings.mode, t, header, right, buffer, payload);
+    let length = respond(out, settings, header[1], header[2], j);
+    let after = settings_after(settings, j);
+    let transfer = transfer_after(t, buffer, payload, j);
     Served {
         settings: after,
-        registers,
+        registers: r.with_transfer(transfer),
         stored: true,
-        answer: Answer::Answered {
-            taken,
-            length: s.length,
-        },
+        answer: Answer::Answered { taken, length },
         wrong: j.wrong(),
     }
 }

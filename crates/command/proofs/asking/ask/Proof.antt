@@ -1,5 +1,5 @@
 -- `ask` meets its contract: it refuses, or the packet is judged and its judgement told in numbers.
-use Prim.Native.Nat.{ℕ, _+_, _-_, _≤_}
+use Prim.Native.Nat.{ℕ, _+_, _-_, _<_, _≤_}
 use mathlib.Core.Bool.{true, false}
 use mathlib.Core.Path.{_≡_, refl, ap, sym, subst, _∙_}
 use mathlib.Core.List.{List}
@@ -14,6 +14,7 @@ use Rattle.packet.specs.Stream.{size, hasPacket}
 use Rattle.packet.proofs.NumberLaws.{bytes-at}
 use Rattle.packet.proofs.StreamLaws.{next-some, next-none, seven, size-most, payload-length}
 use Rattle.command.specs.Faults.{arrived}
+use Rattle.command.specs.Judgement.{judge}
 use Rattle.command.specs.Controller.{heldIn, transferIn, transferInRule, partsInRule}
 use Rattle.command.specs.Asking.{onePacket, noRuling}
 use Rattle.command.specs.Ruling.{dataFor}
@@ -21,6 +22,7 @@ use Rattle.command.specs.Lent.{withoutHold, recordOf}
 use Rattle.command.specs.Inner.{heldBy}
 use Rattle.command.specs.declared.judgement.Judgement.{Judgement}
 use Rattle.command.proofs.controller.Laws.{rule-parts}
+use Rattle.command.proofs.judgement.Laws.{packet-parts}
 use Rattle.command.proofs.transfer.Laws.{held-is, held-most}
 use Rattle.command.proofs.asking.Laws.{data-fit, out-of-rule, not-one, judges}
 use Rattle.command.proofs.asking.ask.Statement.{statement}
@@ -106,10 +108,14 @@ module _ (e : tie.Else2) where
       let n : packet .before .size .given .0 .0 - 1 - 6 ≡ payloadLength (bytes packet) = omega (arith, there packet .1) in
       ap (λ (i : ℕ). take i (drop 6 (bytes packet))) n
 
+-- the transfer, seen from the reads of the header and from the payload on
+abbrev from-header : tie.After-shared-slice-known7 → tie.After-transfer
+from-header c = c .before .before .before .before .before .before
+
 -- and judged so
-module _ (g : tie.After-judge-bytes) where
+module _ (g : tie.After-judge) where
   abbrev t : tie.After-transfer
-  t = g .before .before
+  t = from-header (g .before .before .before)
 
   abbrev p : List ℕ
   p = bytes (t .before .before)
@@ -120,66 +126,79 @@ module _ (g : tie.After-judge-bytes) where
   abbrev rule : transferInRule (t .transfer .result) ≡ true
   rule = ap transferInRule (t .transfer .ensures) ∙ rule-parts _ _ (in-rule (said (t .before .before) .before)) .transfer
 
+  -- as document 01 judges the packet
+  judged-is : g .judge .result ≡ judge (came (t .before .before) .args .settings .mode) (transferIn (t .transfer .result) buffer) (arrived p)
+  judged-is =
+      let k = t .before .before in
+      g .judge .ensures
+      ∙ ap (judge (came k .args .settings .mode) (transferIn (t .transfer .result) buffer))
+      (packet-parts p (k .before .size .given .0 .1 .0) (whole (t .before)) (sym (there k .2)) (ap (λ (i : ℕ). take (i - 1 - 6) (drop 6 p)) (t .before .if2 .left)))
+
   -- the data have room
-  fit : length buffer ≡ 1024 → length (dataFor (heldBy (t .transfer .result) buffer) (payload p) (g .judge-bytes .result)) ≤ 1024
+  fit : length buffer ≡ 1024 → length (dataFor (heldBy (t .transfer .result) buffer) (payload p) (g .judge .result)) ≤ 1024
   fit n =
-      subst (λ (j : Judgement). length (dataFor (heldBy (t .transfer .result) buffer) (payload p) j) ≤ 1024) (sym (g .judge-bytes .ensures))
+      subst (λ (j : Judgement). length (dataFor (heldBy (t .transfer .result) buffer) (payload p) j) ≤ 1024) (sym judged-is)
       (rw (← held-is (t .transfer .result) rule buffer)
       (data-fit _ (transferIn (t .transfer .result) buffer) (arrived p)
       (omega (arith, ap length (held-is (t .transfer .result) rule buffer), length-take-le (heldIn (t .transfer .result)) buffer (omega (arith, held-most (t .transfer .result) rule)), held-most (t .transfer .result) rule))
       (payload-length p (whole (t .before)))))
 
-judge-bytes-requires : tie.Need-judge-bytes-requires
-judge-bytes-requires c κs =
-    let t = c .before in
+sub-payload : tie.Need-sub-payload
+sub-payload c = let e = from-header c .before in omega (arith, least e, e .if2 .left)
+
+sub-payload-2 : tie.Need-sub-payload-2
+sub-payload-2 c = let e = from-header c .before in omega (arith, least e, e .if2 .left)
+
+part-payload-start : tie.Need-part-payload-start
+part-payload-start c = let e = from-header c .before in omega (arith, least e, e .if2 .left)
+
+-- the payload is no longer than a packet can have
+short : (e : tie.Else2) → length (payload (bytes (packet e))) < 65536
+short e =
+    let z : size (bytes (packet e)) ≡ 7 + payloadLength (bytes (packet e)) = unfold size in refl in
+    omega (arith, most e, whole e, payload-length (bytes (packet e)) (whole e), z)
+
+judge-requires : tie.Need-judge-requires
+judge-requires c κs =
+    let t = from-header (c .before .before) in
     let e = t .before in
     let k = e .before in
     let n : length (now (came k .args .buffer)) ≡ 1024 = search needs in
-    (least e, most e, whole e, sym (there k .2), ap transferInRule (t .transfer .ensures) ∙ rule-parts _ _ (in-rule (said k .before)) .transfer, n)
-
-sub-keep : tie.Need-sub-keep
-sub-keep c = let e = c .before .before .before .before in omega (arith, least e, e .if2 .left)
-
-sub-keep-2 : tie.Need-sub-keep-2
-sub-keep-2 c = let e = c .before .before .before .before in omega (arith, least e, e .if2 .left)
-
-part-keep-start : tie.Need-part-keep-start
-part-keep-start c = let e = c .before .before .before .before in omega (arith, least e, e .if2 .left)
+    rw (body-is e) (ap transferInRule (t .transfer .ensures) ∙ rule-parts _ _ (in-rule (said k .before)) .transfer, n, short e)
 
 keep-requires : tie.Need-keep-requires
 keep-requires c κs =
-    let g = c .before .before .before in
+    let g = c .before .before in
     let e = t g .before in
     let n : length (buffer g) ≡ 1024 = search needs in
-    let z : size (p g) ≡ 7 + payloadLength (p g) = unfold size in refl in
-    rw (body-is e) (rule g, n, omega (arith, most e, whole e, payload-length (p g) (whole e), z), fit g n)
-
-shared-slice-read-ruling : tie.Need-shared-slice-read-ruling
-shared-slice-read-ruling c = let e = t (c .before .before .before .before .before) .before in omega (arith, least e)
-
-shared-slice-read-ruling-2 : tie.Need-shared-slice-read-ruling-2
-shared-slice-read-ruling-2 c = let e = t (c .before .before .before .before .before .before) .before in omega (arith, least e)
+    rw (body-is e) (rule g, n, short e, fit g n)
 
 ruling-requires : tie.Need-ruling-requires
 ruling-requires c κs =
-    let k = c .before .before in
-    let g = k .before .before .before .before in
+    let g = c .before .before .before in
     let n : length (buffer g) ≡ 1024 = search needs in
-    omega (arith, rw (body-is (t g .before)) at (k .keep .ensures .0), fit g n)
+    omega (arith, rw (body-is (t g .before)) at (c .keep .ensures .0), fit g n)
 
 returns-4 : tie.Need-returns-4
 returns-4 c =
-    let k = c .before .before .before in
-    let g = k .before .before .before .before in
+    let k = c .before in
+    let g = k .before .before .before in
     let e = t g .before in
     let s = came (e .before) in
     let b = body-is e in
     judges (s .args .settings) (s .args .r) (buffer g) (p g) (now (s .args .joined)) noRuling (in-rule (said (e .before) .before)) (there (e .before) .0) (whole e)
-    (t g .transfer .ensures) refl (g .judge-bytes .ensures) (rw b at (k .keep .ensures .0)) (rw b at (k .keep .ensures .1)) (c .ruling .ensures)
+    (t g .transfer .ensures) refl (judged-is g) (rw b at (k .keep .ensures .0)) (rw b at (k .keep .ensures .1)) (c .ruling .ensures)
 
 pub ask-spec : {M : Type 1} → statement M
 ask-spec =
     tie.close
     (tie.spec (λ c κs. search needs) (λ c κs. search needs) returns (λ c κs. search needs) (λ c. search needs) (λ c. search needs)
-    (λ c κs. search needs) returns-2 (λ c κs. search needs) returns-3 (λ c κs. search needs) judge-bytes-requires sub-keep sub-keep-2
-    part-keep-start (λ c. search needs) keep-requires shared-slice-read-ruling shared-slice-read-ruling-2 ruling-requires returns-4)
+    (λ c κs. search needs) returns-2 (λ c κs. search needs) returns-3 (λ c κs. search needs)
+    (λ c. omega (arith, least (c .before .before)))
+    (λ c. omega (arith, least (c .before .before .before)))
+    (λ c. omega (arith, least (c .before .before .before .before)))
+    (λ c. omega (arith, least (c .before .before .before .before .before)))
+    (λ c. omega (arith, least (c .before .before .before .before .before .before)))
+    (λ c. omega (arith, least (from-header c .before)))
+    sub-payload sub-payload-2 part-payload-start (λ c. search needs) judge-requires keep-requires (λ c. search needs) (λ c. search needs)
+    ruling-requires returns-4)
