@@ -1,13 +1,11 @@
 // The receive call: it takes bytes until the input ends or one packet is complete, and answers that
 // packet.
-use crate::carry::settings_after;
-use crate::carry::transfer_after;
+use crate::carry::carry;
 use crate::controller::Controller;
 use crate::controller::Registers;
 use crate::controller::in_rule;
 use crate::judgement::judge;
 use crate::output::OUTPUT;
-use crate::response::respond;
 use crate::rules::WrongByte;
 use crate::settings::Settings;
 use crate::transfer::HOLD;
@@ -61,16 +59,18 @@ fn settle(
     let header = r.header;
     let n = kept(packet::word(header[4], header[5]));
     let payload = &hold[..n];
-    let t = r.transfer();
-    let j = judge(settings.mode, t, header, right, buffer, payload);
-    let length = respond(out, settings, header[1], header[2], j);
-    let after = settings_after(settings, j);
-    let transfer = transfer_after(t, buffer, payload, j);
+    let j = judge(settings.mode, r.transfer(), header, right, buffer, payload);
+    let s = carry(settings, r, buffer, header[1], header[2], payload, j, out);
+    let after = s.settings;
+    let registers = s.registers;
     Served {
         settings: after,
-        registers: r.with_transfer(transfer),
+        registers,
         stored: true,
-        answer: Answer::Answered { taken, length },
+        answer: Answer::Answered {
+            taken,
+            length: s.length,
+        },
         wrong: j.wrong(),
     }
 }

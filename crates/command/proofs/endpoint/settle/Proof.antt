@@ -1,6 +1,5 @@
--- `settle` meets its contract.
-use Prim.Native.Nat.{ℕ, _<_, _≤_, min}
-use mathlib.Core.Bool.{true}
+-- `settle` meets its contract: the packet is judged as the receiver has it, and `carry` does the rest.
+use Prim.Native.Nat.{ℕ, _≤_, min}
 use mathlib.Core.List.{List}
 use mathlib.Core.Path.{_≡_, refl, sym, ap, _∙_}
 use native.Mathlib.Omega.{arith}
@@ -13,7 +12,6 @@ use Rattle.packet.proofs.Cases.{lt-cases}
 use Rattle.command.specs.Controller.{transferInRule}
 use Rattle.command.specs.Response.{response}
 use Rattle.command.specs.Endpoint.{judgedIn, responseIn}
-use Rattle.command.proofs.carry.Laws.{count-fits}
 use Rattle.command.proofs.endpoint.settle.Statement.{statement}
 use Rattle.command.proofs.endpoint.settle.Tie as tie
 
@@ -35,52 +33,38 @@ counted c =
 slice-aggregate-payload : tie.Need-slice-aggregate-payload
 slice-aggregate-payload c = sym (counted (c .before) .0)
 
--- the registers' transfer is in rule
-in-rule : (t : tie.After-transfer) → transferInRule (t .transfer .result) ≡ true
-in-rule t = ap transferInRule (t .transfer .ensures) ∙ t .before .before .before .before .before .before .before .pre .0
-
 judge-requires : tie.Need-judge-requires
 judge-requires c κs =
     let t = c .before .before in
     let k = t .before .before in
     let s = k .before .before .before .before .before in
     let n : length (now (s .args .buffer)) ≡ 1024 = search needs in
-    (in-rule t, n, omega (arith, counted k .0, counted k .1))
+    (ap transferInRule (t .transfer .ensures) ∙ s .pre .0, n, omega (arith, counted k .0, counted k .1))
 
-transfer-after-requires : tie.Need-transfer-after-requires
-transfer-after-requires c κs =
-    let t = c .before .before .before .before .before .before .before .before .before in
-    (in-rule t, omega (arith, counted (t .before .before) .0, counted (t .before .before) .1))
-
-with-transfer-requires : tie.Need-with-transfer-requires
-with-transfer-requires c κs =
-    let j = c .before .before .before .before .before .before .before in
-    let t = j .before .before .before in
-    let k = t .before .before in
-    rw (c .transfer-after .ensures .0)
-    (count-fits (t .transfer .result) (take (k .kept .result) (now (k .before .before .before .before .before .args .hold))) (j .judge .result) (in-rule t)
-    (omega (arith, counted k .0, counted k .1)))
+carry-requires : tie.Need-carry-requires
+carry-requires c κs =
+    let k = c .before .before .before .before .before .before .before in
+    let s = k .before .before .before .before .before in
+    (s .pre .0, omega (arith, counted k .0, counted k .1), s .pre .2)
 
 returns : tie.Need-returns
 unfolding responseIn judgedIn response
 returns c =
-    let x = c .before in
-    let a = x .before in
-    let e = a .before .before .before .before .before in
-    let t = e .before .before .before .before .before in
+    let a = c .before .before .before .before .before in
+    let j = a .before .before .before in
+    let t = j .before .before .before in
     let k = t .before .before in
     let s = k .before .before .before .before .before in
     let w : take (k .kept .result) (now (s .args .hold)) ≡ take (payloadLength (s .args .r .header)) (now (s .args .hold)) =
     in-hold (now (s .args .hold)) (k .kept .result) (payloadLength (s .args .r .header)) (s .pre .1) (rw (k .before .word .ensures .0) at (k .kept .ensures)) in
     rw (
       c .wrong .ensures,
-      x .with-transfer .ensures,
-      e .respond .ensures .0,
-      e .respond .ensures .1,
-      a .before .before .settings-after .ensures,
-      a .transfer-after .ensures .0,
-      a .transfer-after .ensures .1,
-      e .before .before .judge .ensures,
+      a .carry .ensures .0,
+      a .carry .ensures .1,
+      a .carry .ensures .2,
+      a .carry .ensures .3,
+      a .carry .ensures .4,
+      j .judge .ensures,
       t .transfer .ensures,
       w,
     ) (refl, refl)
@@ -89,5 +73,4 @@ pub settle-spec : {M : Type 1} → statement M
 settle-spec =
     tie.close
     (tie.spec (λ c. search needs) (λ c. search needs) (λ c κs. search needs) (λ c κs. search needs) slice-aggregate-payload
-    (λ c κs. search needs) judge-requires (λ c. search needs) (λ c. search needs) (λ c κs. search needs) (λ c κs. search needs) transfer-after-requires
-    with-transfer-requires (λ c κs. search needs) (λ c. search needs) returns)
+    (λ c κs. search needs) judge-requires (λ c. search needs) (λ c. search needs) carry-requires (λ c κs. search needs) (λ c. search needs) returns)
