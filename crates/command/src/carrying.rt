@@ -7,7 +7,7 @@ use crate::controller::in_rule;
 use crate::faults::Codes;
 use crate::faults::open_for;
 use crate::judgement::Judgement;
-use crate::judgement::judge_write;
+use crate::judgement::judge;
 use crate::output::OUTPUT;
 use crate::rules::display_mode;
 use crate::ruling::HOLDS;
@@ -25,10 +25,10 @@ use crate::transfer::HOLD;
 use crate::transfer::TransferState;
 ghost use mathlib.Core.Path.{_≡_};
 ghost use mathlib.Core.Bool.{true, false, cond};
-ghost use mathlib.Core.List.{_++_};
 ghost use mathlib.Core.Option.{none, some};
 ghost use Prim.Native.Nat.{_≤_, _<_};
-ghost use lib.ListN.{length};
+ghost use lib.ListN.{length, take};
+ghost use Rattle.command.specs.Judgement.{judgeWrite};
 ghost use Rattle.command.specs.Controller.{transferOf, transferInRule};
 ghost use Rattle.command.specs.Ruling.{forged, meant, itemsIn, sameItems, transferOfKept};
 ghost use Rattle.command.specs.Data.{sameList};
@@ -70,10 +70,34 @@ fn ruling_in_rule(n: Ruling) -> bool
     (n.wrong == NO_WRONG_BYTE) & mode_allowed & transfer_in_rule & (held <= count) & (count <= HOLD)
 }
 
-// A judgement without codes for this command, its joined data in two parts.
-fn accepted(c: Command, n: Ruling, held: &[u8], brought: &[u8]) -> Meant
-    requires { ⌜ (length (now held) ≤ 1024) × (length (now brought) < 65536) ⌝ }
-    ensures { λ d. ⌜ meantOf d ≡ acceptedBy c n (now (held .entry) ++ now (brought .entry)) ⌝ }
+// How the joined data are judged as a write: as the payload of one whole packet, with no transfer open.
+fn judge_joined(c: Command, mode: u8, joined: &[u8], count: usize) -> Judgement
+    requires { ⌜ (length (now joined) ≡ 1024) × (count ≤ 1024) ⌝ }
+    ensures { λ j. ⌜ j ≡ judgeWrite c mode (take count (now (joined .entry))) ⌝ }
+{
+    let code = c.code();
+    let header = [
+        packet::HOST_WRITE,
+        code.cmd1,
+        code.cmd2,
+        packet::WHOLE,
+        (count % 256) as u8,
+        (count / 256) as u8,
+    ];
+    judge(
+        mode,
+        TransferState::NONE,
+        header,
+        true,
+        joined,
+        &joined[..count],
+    )
+}
+
+// A judgement without codes for this command.
+fn accepted(c: Command, n: Ruling, joined: &[u8]) -> Meant
+    requires { ⌜ (length (now joined) ≡ 1024) × (n .count ≤ 1024) ⌝ }
+    ensures { λ d. ⌜ meantOf d ≡ acceptedBy c n (take (n .count) (now (joined .entry))) ⌝ }
 {
     let kept = n.kept;
     let t = kept.transfer();
@@ -83,7 +107,7 @@ fn accepted(c: Command, n: Ruling, held: &[u8], brought: &[u8]) -> Meant
         return Meant::By(Judgement::Hold(c));
     }
     if (n.accepts == WRITES) & in_order {
-        let j = judge_write(c, kept.mode, held, brought);
+        let j = judge_joined(c, kept.mode, joined, n.count as usize);
         if accepts(j) == WRITES {
             return Meant::By(j);
         }
@@ -114,11 +138,7 @@ fn meaning(n: Ruling, joined: &[u8]) -> Meant
     let Found::Known(c) = Command::find(n.cmd1, n.cmd2) else {
         return Meant::Nothing;
     };
-    let kept = n.kept;
-    let t = kept.transfer();
-    let held = t.held();
-    let count = n.count as usize;
-    accepted(c, n, &joined[..held], &joined[held..count])
+    accepted(c, n, joined)
 }
 
 // Both slices have the same bytes.

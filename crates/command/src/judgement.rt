@@ -51,7 +51,7 @@ impl Judgement {
 }
 
 // The data of a write are complete: what is held, and the payload.
-pub(crate) fn judge_write(c: Command, mode: u8, held: &[u8], payload: &[u8]) -> Judgement
+fn judge_write(c: Command, mode: u8, held: &[u8], payload: &[u8]) -> Judgement
     requires { ⌜ (length (now held) ≤ 1024) × (length (now payload) < 65536) ⌝ }
     ensures { λ r. ⌜ r ≡ judgeWriteOf c mode (now (held .entry) ++ now (payload .entry)) ⌝ }
 {

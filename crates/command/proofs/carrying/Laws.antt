@@ -171,7 +171,7 @@ module _ (n : Ruling) (d : List ℕ) where
 -- Carrying out.
 
 -- a part of a list behind the bytes before it, and that part by its two cuts
-pub parts-join : (l : List ℕ) (h e : ℕ) → h ≤ e → take h l ++ take (e - h) (drop h l) ≡ take e l
+parts-join : (l : List ℕ) (h e : ℕ) → h ≤ e → take h l ++ take (e - h) (drop h l) ≡ take e l
 parts-join l h e p = let n : h + (e - h) ≡ e = omega arith in sym (take-add h (e - h) l) ∙ ap (λ (i : ℕ). take i l) n
 
 pub part-is : (l : List ℕ) (h e : ℕ) → h ≤ e → e ≤ length l → take (e - h) (drop h l) ≡ drop h (take e l)

@@ -59,7 +59,7 @@ module _ (type : ℕ) (c : Command) (d : List ℕ) (w : wrongCommand (Known c) t
   unfolding anyFault faults faultsOf tooLong wrongOrder
   no-faults = rw (w, le-ltb 1024 (length d) h, and-false (not (eqb type hostWrite)))
 
-  alone : (mode : ℕ) → judge mode Closed (plain type c d) ≡ judgeData c mode type whole d
+  pub alone : (mode : ℕ) → judge mode Closed (plain type c d) ≡ judgeData c mode type whole d
   unfolding judge judgeAs
   alone mode = rw (found c, no-faults)
 

@@ -1,19 +1,14 @@
 -- `meaning` meets its contract: by its codes, and with none test by test.
-use mathlib.Core.Path.{_≡_, sym, ap, _∙_}
-use Rattle.command.specs.Ruling.{transferOfKept}
+use mathlib.Core.Path.{_≡_, sym, _∙_}
 use mathlib.Core.Bool.{Bool, true, cond}
 use mathlib.Core.Option.{none, some}
-use native.Mathlib.Omega.{arith}
-use lib.ListN.{length-take}
-use lib.Seq.{length-take-le}
 use borrow.Author.Needs.{needs}
 use borrow.Author.Tests.{eq-eqb, ne-eqb, not-true, not-false}
 use denote.Ref.{now}
-use Rattle.command.specs.Controller.{heldIn}
 use Rattle.command.specs.Lent.{recordOf}
 use Rattle.command.specs.Inner.{rulingInRule}
 use Rattle.command.specs.declared.judgement.Judgement.the-variants.{Error}
-use Rattle.command.proofs.carrying.Laws.{drawn, drawn-told, drawn-out, drawn-unknown, drawn-known, InRule, in-rule, parts-join}
+use Rattle.command.proofs.carrying.Laws.{drawn, drawn-told, drawn-out, drawn-unknown, drawn-known, in-rule}
 use Rattle.command.proofs.carrying.meaning.Statement.{statement}
 use Rattle.command.proofs.carrying.meaning.Tie as tie
 
@@ -46,47 +41,24 @@ returns-4 c =
     let a = x .before .before .before .before .args in
     sym (drawn-unknown (a .n) (now (a .joined)) (eq-eqb (a .n .codes) 0 (x .before .if1 .left)) (sym (f .find .ensures) ∙ c .enum-told .given .1))
 
--- where the function starts, and the branch of numbers in rule, seen from where the held bytes are counted
-abbrev branch : tie.After-held → tie.Else3
-branch h = h .before .before .before .before .before .before .before
-
-abbrev start : tie.After-held → tie.Start
-start h = branch h .before .before .before .before .before
-
-counted : (h : tie.After-held) → let a = start h .args in (h .held .result ≡ heldIn (transferOfKept (a .n .kept))) × InRule (a .n)
-counted h = (h .held .ensures ∙ ap heldIn (h .before .transfer .ensures), in-rule (start h .args .n) (ruled (branch h)))
-
-slice-aggregate-accepted : tie.Need-slice-aggregate-accepted
-slice-aggregate-accepted c =
-    let h = c .before .before in
-    let k = counted h in
-    sym (length-take-le (h .held .result) (now (start h .args .joined)) (omega (arith, k .0, k .1 .least, k .1 .most, start h .pre)))
-
+-- one of a command of the table
 accepted-requires : tie.Need-accepted-requires
 accepted-requires c κs =
-    let h = c .before .before .before in
-    let k = counted h in
-    (omega (arith, slice-aggregate-accepted (c .before), k .0, k .1 .least, k .1 .most), simp length-take (omega (arith, k .1 .most)))
+    let e = c .before .before .before .before in
+    let s = e .before .before .before .before .before in
+    (s .pre, in-rule (s .args .n) (ruled e) .most)
 
 returns-5 : tie.Need-returns-5
 returns-5 c =
-    let h = c .before .before .before .before in
-    let k = counted h in
-    let x = h .before .before .before .before in
-    let f = x .before .before in
-    let b = f .before in
-    let a = start h .args in
+    let x = c .before in
+    let f = x .before .before .before in
+    let e = f .before in
+    let a = e .before .before .before .before .before .args in
     c .accepted .ensures
-    ∙ rw (parts-join (now (a .joined)) (h .held .result) (a .n .count) (omega (arith, k .0, k .1 .least)))
-    (sym (drawn-known (a .n) (now (a .joined)) (x .c .given .0 .0) (eq-eqb (a .n .codes) 0 (b .before .before .if1 .left)) (sym (f .find .ensures) ∙ x .c .given .1) (ruled b)))
+    ∙ sym (drawn-known (a .n) (now (a .joined)) (x .before .c .given .0 .0) (eq-eqb (a .n .codes) 0 (e .before .before .if1 .left)) (sym (f .find .ensures) ∙ x .before .c .given .1) (ruled e))
 
 pub meaning-spec : {M : Type 1} → statement M
 meaning-spec =
     tie.close
     (tie.spec (λ c κs. search needs) (λ c κs. search needs) (λ c. sym (told (c .before) (c .if2 .taken))) (λ c. sym (told (c .before) (c .if2 .left)))
-    (λ c κs. search needs) returns-3 (λ c κs. search needs) (λ c. search needs) (λ c. search needs) returns-4 (λ c κs. search needs) (λ c κs. search needs) (λ c. search needs)
-    slice-aggregate-accepted
-    (λ c. let k = counted (c .before .before) in omega (arith, k .0, k .1 .least))
-    (λ c. let k = counted (c .before .before) in omega (arith, k .0, k .1 .least))
-    (λ c. let k = counted (c .before .before) in omega (arith, k .1 .most))
-    accepted-requires returns-5)
+    (λ c κs. search needs) returns-3 (λ c κs. search needs) (λ c. search needs) (λ c. search needs) returns-4 accepted-requires returns-5)
