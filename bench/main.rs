@@ -10,7 +10,6 @@ mod ffi;
 #[path = "../tests/differential/model.rs"]
 mod model;
 
-use model::List;
 use std::hint::black_box;
 use std::time::Instant;
 
@@ -19,7 +18,7 @@ trait Side {
     /// Bytes taken, and the wrong byte, as the library has it.
     fn receive(&mut self, input: &[u8], out: &mut [u8]) -> (usize, u64);
     fn encode(&mut self, cmd: [u8; 2], out: &mut [u8]) -> usize;
-    fn list(&mut self, list: List, out: &mut [u8]) -> usize;
+    fn list(&mut self, out: &mut [u8]) -> usize;
     /// The refusal, 0 for accepted.
     fn report(&mut self, report: &[u8]) -> u32;
 }
@@ -41,9 +40,9 @@ impl Side for Library {
         ffi::encode(cmd, &self.settings, out, &mut size);
         size as usize
     }
-    fn list(&mut self, list: List, out: &mut [u8]) -> usize {
+    fn list(&mut self, out: &mut [u8]) -> usize {
         let mut size = 0;
-        ffi::list(list, &self.settings, out, &mut size);
+        ffi::standard_list(&self.settings, out, &mut size);
         size as usize
     }
     fn report(&mut self, report: &[u8]) -> u32 {
@@ -74,8 +73,8 @@ impl Side for Model {
         model::encode(command, &self.settings, out).unwrap_or(0)
     }
     #[inline(never)]
-    fn list(&mut self, list: List, out: &mut [u8]) -> usize {
-        model::list(list, &self.settings, out).unwrap_or(0)
+    fn list(&mut self, out: &mut [u8]) -> usize {
+        model::standard_list(&self.settings, out).unwrap_or(0)
     }
     #[inline(never)]
     fn report(&mut self, report: &[u8]) -> u32 {
@@ -83,17 +82,18 @@ impl Side for Model {
     }
 }
 
-fn library(settings: &model::Settings) -> Library {
+fn library() -> Library {
+    let settings = ffi::Settings::from(&model::Settings::FACTORY);
     Library {
         controller: ffi::Controller::fresh(),
-        settings: settings.into(),
+        settings,
     }
 }
 
-fn model(settings: &model::Settings) -> Model {
+fn model() -> Model {
     Model {
         controller: model::Controller::default(),
-        settings: *settings,
+        settings: model::Settings::FACTORY,
     }
 }
 
@@ -110,29 +110,6 @@ fn packet(kind: u8, cmd: [u8; 2], flags: u8, data: &[u8]) -> Vec<u8> {
 
 fn payload(length: usize) -> Vec<u8> {
     (0..length).map(|i| (i * 31 + 7) as u8).collect()
-}
-
-/// Settings in which every command has other values than the factory's, so that the short list writes them all.
-fn all_changed() -> model::Settings {
-    use model::Command::*;
-    let mut settings = model::Settings::FACTORY;
-    for (command, data) in [
-        (Mode, &[4][..]),
-        (Pattern, &[1]),
-        (Current, &[0, 0, 0, 0, 0, 0]),
-        (Colour, &[0, 0, 255, 0]),
-        (Display, &[1, 1, 1]),
-        (Input, &FIRST_PAIR),
-        (Video, &[30, 1, 4]),
-        (
-            Sequence,
-            &[8, 12, 0, 5, 0, 0, 0, 0, 0, 0, 0, 0, 0, 0, 0, 0, 1],
-        ),
-        (Run, &[1]),
-    ] {
-        settings.set(command, data);
-    }
-    settings
 }
 
 /// A write of every command and a read of all but one, each of them acknowledged or answered. The video
@@ -228,7 +205,7 @@ enum Work {
         each: usize,
     },
     Encode,
-    List(List),
+    List,
     Report,
 }
 
@@ -237,8 +214,6 @@ struct Workload {
     title: &'static str,
     work: Work,
     input: Vec<u8>,
-    /// What is encoded or listed.
-    settings: model::Settings,
     /// What one time is counted as, and in what.
     amount: f64,
     unit: &'static str,
@@ -262,7 +237,6 @@ fn workloads() -> Vec<Workload> {
         title,
         work,
         input: input.clone(),
-        settings: model::Settings::FACTORY,
         amount,
         unit,
         counted,
@@ -353,33 +327,12 @@ fn workloads() -> Vec<Workload> {
         work(
             "list",
             "standard list",
-            List(model::List::Standard),
+            List,
             &cycle,
             1.0 / 1e6,
             "M lists/s",
             false,
         ),
-        work(
-            "short",
-            "short list, nothing changed",
-            List(model::List::Short),
-            &cycle,
-            1.0 / 1e6,
-            "M lists/s",
-            false,
-        ),
-        Workload {
-            settings: all_changed(),
-            ..work(
-                "short-all",
-                "short list, every command changed",
-                List(model::List::Short),
-                &cycle,
-                1.0 / 1e6,
-                "M lists/s",
-                false,
-            )
-        },
         work(
             "report-small",
             "report of small packets",
@@ -424,8 +377,8 @@ fn perform<S: Side>(side: &mut S, w: &Workload, times: usize) -> u64 {
                     seen += out[6] as u64;
                 }
             }
-            Work::List(list) => {
-                seen += side.list(black_box(list), &mut out) as u64;
+            Work::List => {
+                seen += side.list(&mut out) as u64;
                 seen += out[110] as u64;
             }
             Work::Report => {
@@ -449,7 +402,7 @@ fn table(rounds: usize) {
     println!("| workload | unit | library | Rust | library / Rust |");
     println!("|---|---|---|---|---|");
     for w in workloads() {
-        let (mut library, mut model) = (library(&w.settings), model(&w.settings));
+        let (mut library, mut model) = (library(), model());
         assert_eq!(
             perform(&mut library, &w, 3),
             perform(&mut model, &w, 3),
@@ -569,14 +522,6 @@ fn stack_of_list() -> usize {
 }
 
 #[inline(never)]
-fn stack_of_short_list() -> usize {
-    let settings = ffi::Settings::from(&all_changed());
-    let mut out = [0u8; 128];
-    let mut size = 0;
-    depth!(ffi::short_list(&settings, &mut out, &mut size))
-}
-
-#[inline(never)]
 fn stack_of_encode() -> usize {
     let settings = ffi::Settings::from(&model::Settings::FACTORY);
     let mut out = [0u8; 128];
@@ -621,7 +566,6 @@ fn sizes() {
     println!("| stack of receive | {receive} | 1,023 |");
     println!("| stack of encode | {} | |", stack_of_encode());
     println!("| stack of the standard list | {} | |", stack_of_list());
-    println!("| stack of the short list | {} | |", stack_of_short_list());
     println!("| stack of the report checker | {report} | |");
     // Each of the controller's two arrays has 1,024 bytes: a copy of one on the stack would show.
     if controller > 2200 || receive > 1023 {
@@ -649,8 +593,8 @@ fn main() {
             };
             let times = times.parse().expect("a number of times");
             match side {
-                "library" => perform(&mut library(&w.settings), w, times),
-                _ => perform(&mut model(&w.settings), w, times),
+                "library" => perform(&mut library(), w, times),
+                _ => perform(&mut model(), w, times),
             };
         }
         _ => {

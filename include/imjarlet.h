@@ -36,8 +36,8 @@ typedef uint64_t imjarlet_size;
 /* Sizes, in bytes. */
 enum {
     IMJARLET_OUTPUT_LEAST = 64,        /* the shortest output that a receive call, carrying out or the encoder takes */
-    IMJARLET_LIST_OUTPUT_LEAST = 128,  /* the shortest output that a shipping list takes, the short one too */
-    IMJARLET_LIST_LENGTH = 111,        /* the length of the standard list, and the most that the short one has */
+    IMJARLET_LIST_OUTPUT_LEAST = 128,  /* the shortest output that the standard list takes */
+    IMJARLET_LIST_LENGTH = 111,        /* the length of the standard list */
     IMJARLET_HOLD = 1024,              /* the most payload bytes that are held of a transfer, and of a packet */
     IMJARLET_REPORT_MOST = 60000       /* the most bytes of a report */
 };
@@ -93,7 +93,7 @@ enum {
 /* What a call refuses. It then takes nothing and leaves output, controller and judgement as they were. */
 enum {
     IMJARLET_NO_REFUSAL = 0,    /* also where an error packet is the answer; of a report: it is accepted */
-    IMJARLET_SHORT_OUTPUT = 1,  /* the output is shorter than 64 bytes, or 128 for a shipping list */
+    IMJARLET_SHORT_OUTPUT = 1,  /* the output is shorter than 64 bytes, or 128 for the standard list */
     IMJARLET_NOT_ALLOWED = 2,   /* the encoder: a value is not allowed, or the command is not in the table;
                                    carrying out: a judgement without error codes that no packet draws from
                                    a controller that 3 lets pass and that has what the judgement keeps */
@@ -332,22 +332,6 @@ uint32_t imjarlet_encode(uint8_t cmd1, uint8_t cmd2, const imjarlet_settings *se
  */
 uint32_t imjarlet_standard_list(const imjarlet_settings *settings,
                                 uint8_t *out, imjarlet_size out_length, imjarlet_size *size);
-
-/*
- * The short shipping list, at the output's start, *size bytes long: one whole-packet write for each command
- * whose values differ from the factory's, in table order, which is that of the fields of imjarlet_settings;
- * the rest of the output is untouched. Where nothing differs, *size is 0 and nothing is written or refused.
- *
- * It is for a head at factory values that 3 lets pass, with nothing half received and no transfer open: there
- * each of these packets is acknowledged, and the settings come out equal to *settings. No sequence of packets
- * that takes such a head to the same settings, all of them acknowledged and no transfer left open, has fewer
- * bytes. A head at other values it need not bring there, since it leaves commands out.
- *
- * Refusals 1 and 3, tested in this order, as for the standard list: 128 bytes of output are due however short
- * the list is. *size is then 0.
- */
-uint32_t imjarlet_short_list(const imjarlet_settings *settings,
-                             uint8_t *out, imjarlet_size out_length, imjarlet_size *size);
 
 /*
  * Whether the settings that a tuning report ships are those that its best trial ended with. Refusals

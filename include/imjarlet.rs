@@ -13,9 +13,9 @@
 
 /// The shortest output that a receive call, carrying out or the encoder takes.
 pub const OUTPUT_LEAST: usize = 64;
-/// The shortest output that a shipping list takes, the short one too.
+/// The shortest output that the standard list takes.
 pub const LIST_OUTPUT_LEAST: usize = 128;
-/// The length of the standard list, and the most that the short one has.
+/// The length of the standard list.
 pub const LIST_LENGTH: usize = 111;
 /// The most payload bytes that are held of a transfer, and of a packet.
 pub const HOLD: usize = 1024;
@@ -212,7 +212,7 @@ const _: () = {
 /// What a call refuses. It then takes nothing and leaves output, controller and judgement as they were.
 #[derive(Clone, Copy, PartialEq, Eq, Debug)]
 pub enum Refusal {
-    /// 1: the output is shorter than 64 bytes, or 128 for a shipping list.
+    /// 1: the output is shorter than 64 bytes, or 128 for the standard list.
     ShortOutput,
     /// 2: the encoder was given a value that is not allowed, or a command that is not in the table; or a
     /// judgement without error codes was to be carried out that no packet draws from a controller that 3 lets
@@ -362,12 +362,6 @@ pub mod raw {
             out_length: u64,
             size: *mut u64,
         ) -> u32;
-        pub fn imjarlet_short_list(
-            settings: *const Settings,
-            out: *mut u8,
-            out_length: u64,
-            size: *mut u64,
-        ) -> u32;
         pub fn imjarlet_check_report(
             report: *const u8,
             report_length: u64,
@@ -511,29 +505,12 @@ pub fn encode(cmd1: u8, cmd2: u8, settings: &Settings, out: &mut [u8]) -> Result
     })
 }
 
-/// The library's call for a shipping list.
-type ListCall = unsafe extern "C" fn(*const Settings, *mut u8, u64, *mut u64) -> u32;
-
-fn shipping_list(call: ListCall, settings: &Settings, out: &mut [u8]) -> Result<usize, Refusal> {
-    let length = out.len() as u64;
-    emitted(|size| unsafe { call(settings, out.as_mut_ptr(), length, size) })
-}
-
 /// The standard shipping list, at the output's start: one whole-packet write for each command, which
 /// bring a head at factory values to these settings. Refuses a short output and settings that are
 /// out of rule.
 pub fn standard_list(settings: &Settings, out: &mut [u8]) -> Result<usize, Refusal> {
-    shipping_list(raw::imjarlet_standard_list, settings, out)
-}
-
-/// The short shipping list, at the output's start, for a head in rule at factory values, with nothing half
-/// received and no transfer open: one whole-packet write for each command whose values differ from the
-/// factory's, in table order, which is that of the fields of `Settings`. Where nothing differs, its length is
-/// 0. It brings such a head to these settings; no sequence of packets that does so, all of them acknowledged
-/// and no transfer left open, has fewer bytes. Refuses a short output (128 bytes are due however short the
-/// list is) and settings that are out of rule.
-pub fn short_list(settings: &Settings, out: &mut [u8]) -> Result<usize, Refusal> {
-    shipping_list(raw::imjarlet_short_list, settings, out)
+    let length = out.len() as u64;
+    emitted(|size| unsafe { raw::imjarlet_standard_list(settings, out.as_mut_ptr(), length, size) })
 }
 
 /// Whether the settings that a tuning report ships are those that its best trial ended with.

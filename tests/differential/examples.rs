@@ -1,10 +1,9 @@
 //! Document 01's own packets and reports, each for a fresh factory controller: the library and the
 //! model must both give what the paper prints. And request 4: the byte that both must name, field by field,
 //! and the place of refusal 18. And request 5: asked first, with half of another packet received, these
-//! packets are answered alike. And request 6: short lists, written out by hand.
+//! packets are answered alike.
 
 use super::{ffi, generate, model};
-use model::Command::{self, *};
 
 /// Packets, and the responses to all of them.
 const PACKETS: [(&str, &str); 9] = [
@@ -25,37 +24,6 @@ const PACKETS: [(&str, &str); 9] = [
     (
         "02 01 03 01 00 00 07 02 01 03 03 01 00 05 0F 04 01 03 00 00 00 08",
         "03 01 03 00 00 00 07 03 01 03 00 00 00 07 05 01 03 00 01 00 05 0F",
-    ),
-];
-
-/// The data that are not the factory's, and the short list.
-const SHORT_LISTS: [(&[(Command, &str)], &str); 5] = [
-    (&[], ""),
-    (&[(Pattern, "03")], "02 01 03 00 01 00 03 0A"),
-    (
-        &[(Current, "00 04 12 01 12 01")],
-        "02 01 04 00 06 00 00 04 12 01 12 01 37",
-    ),
-    (
-        &[(Run, "01"), (Mode, "04")],
-        "02 01 01 00 01 00 04 09 02 04 02 00 01 00 01 0A",
-    ),
-    (
-        &[
-            (Mode, "04"),
-            (Pattern, "0D"),
-            (Current, "00 00 00 00 00 00"),
-            (Colour, "01 02 03 00"),
-            (Display, "01 00 01"),
-            (Input, "80 02 E0 01 00 00 00 00 80 02 E0 01"),
-            (Video, "0F 01 04"),
-            (Sequence, "08 0C 00 05 00 00 00 00 00 00 00 00 00 00 00 00 02"),
-            (Run, "01"),
-        ],
-        "02 01 01 00 01 00 04 09 02 01 03 00 01 00 0D 14 02 01 04 00 06 00 00 00 00 00 00 00 0D \
-         02 01 06 00 04 00 01 02 03 00 13 02 01 07 00 03 00 01 00 01 0F \
-         02 02 00 00 0C 00 80 02 E0 01 00 00 00 00 80 02 E0 01 D6 02 02 01 00 03 00 0F 01 04 1C \
-         02 04 00 00 11 00 08 0C 00 05 00 00 00 00 00 00 00 00 00 00 00 00 02 32 02 04 02 00 01 00 01 0A",
     ),
 ];
 
@@ -173,33 +141,9 @@ fn wrong_bytes() -> Vec<String> {
     wrong
 }
 
-/// The short lists that are others.
-fn wrong_lists() -> Vec<String> {
-    let mut wrong = Vec::new();
-    for (changed, wanted) in SHORT_LISTS {
-        let mut settings = model::Settings::FACTORY;
-        for (command, data) in changed {
-            settings.set(*command, &bytes(data));
-        }
-        let mut outs = [[0; model::LIST_OUTPUT]; 2];
-        let mut size = 0;
-        let refusal = ffi::short_list(&(&settings).into(), &mut outs[0], &mut size);
-        let ours = model::short_list(&settings, &mut outs[1]);
-        let answers = [(refusal == 0).then_some(size as usize), ours.ok()];
-        for (side, (answer, out)) in ["library", "model"].iter().zip(answers.iter().zip(outs)) {
-            let got = answer.map(|length| &out[..length]);
-            if got != Some(&bytes(wanted)[..]) {
-                wrong.push(format!("{side}, short list {got:02X?}, not {wanted}"));
-            }
-        }
-    }
-    wrong
-}
-
 /// What is not as the papers have it.
 pub fn wrong() -> Vec<String> {
     let mut wrong = wrong_bytes();
-    wrong.extend(wrong_lists());
     let mut stream = |name: &str, input: &[u8], wanted: Vec<u8>| {
         let sides = ["library", "model", "library, asked", "model, asked"];
         let all = draw(input).into_iter().chain(ask(input));
@@ -225,8 +169,6 @@ pub fn wrong() -> Vec<String> {
     }
     let both = " 10 00 04 00 02 01 03 00 01 00 03 0A 02 01 01 00 01 00 01 06";
     let own = " 08 00 04 00 02 01 01 00 01 00 01 06";
-    // The short list of what trial 1 ends with.
-    let short = " 10 00 04 00 02 01 01 00 01 00 01 06 02 01 03 00 01 00 03 0A";
     // The second packet unfinished; a good one, one that opens a transfer, and a byte; the same with a whole
     // packet in that byte's place, which closes the transfer by an error; test pattern 14, a read and a byte.
     let unfinished = " 0F 00 04 00 02 01 03 00 01 00 03 0A 02 01 01 00 01 00 01";
@@ -237,7 +179,6 @@ pub fn wrong() -> Vec<String> {
     let reports = [
         (TRIALS.to_string() + both, (0, 0, 1, 7)),
         (TRIALS.to_string() + own, (19, 46, 0, 0)),
-        (TRIALS.to_string() + short, (0, 0, 1, 7)),
         (String::new(), (11, 0, 0, 0)),
         (TRIALS.to_string() + unfinished, (18, 58, 0, 0)),
         (TRIALS.to_string() + left_open, (18, 58, 0, 0)),

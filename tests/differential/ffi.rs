@@ -66,18 +66,6 @@ pub fn standard_list(settings: &Settings, out: &mut [u8], size: &mut u64) -> u32
 }
 
 #[inline]
-pub fn short_list(settings: &Settings, out: &mut [u8], size: &mut u64) -> u32 {
-    unsafe { raw::imjarlet_short_list(settings, out.as_mut_ptr(), out.len() as u64, size) }
-}
-
-pub fn list(list: model::List, settings: &Settings, out: &mut [u8], size: &mut u64) -> u32 {
-    match list {
-        model::List::Standard => standard_list(settings, out, size),
-        model::List::Short => short_list(settings, out, size),
-    }
-}
-
-#[inline]
 pub fn check_report(report: &[u8], verdict: &mut Verdict) -> u32 {
     unsafe { raw::imjarlet_check_report(report.as_ptr(), report.len() as u64, verdict) }
 }
@@ -91,7 +79,7 @@ pub struct Receipt {
     pub wrong: u64,
 }
 
-/// What the encoder, the shipping lists and carrying out do.
+/// What the encoder and the standard list do.
 #[derive(Clone, Copy, PartialEq, Eq, Debug)]
 pub struct Emitted {
     pub refusal: u32,

@@ -1,8 +1,7 @@
 //! The seeded generator: packets, transfers, controllers and reports, right ones and wrong ones.
 
 use super::ffi::Wide;
-use super::model::{self, Command, Controller, Judgement, List, Settings, State, Transfer};
-use std::ops::Range;
+use super::model::{self, Command, Controller, Judgement, Settings, State, Transfer};
 
 /// Splitmix64.
 pub struct Rng(u64);
@@ -450,30 +449,6 @@ fn spoil(rng: &mut Rng, bytes: &mut Vec<u8>) {
     };
 }
 
-/// The packets of a transfer of these data, from two of them to some; a piece may be empty.
-fn cut_up(rng: &mut Rng, cmd: [u8; 2], data: &[u8]) -> Vec<Vec<u8>> {
-    let mut cuts: Vec<usize> = (0..1 + rng.below(3))
-        .map(|_| rng.below(data.len() + 1))
-        .collect();
-    if rng.one_in(6) {
-        cuts.push(data.len());
-        cuts.push(data.len());
-    }
-    if rng.one_in(6) {
-        cuts.push(0);
-    }
-    cuts.sort();
-    let mut from = 0;
-    let mut parts = Vec::new();
-    for cut in cuts {
-        let flags = if parts.is_empty() { 1 } else { 2 };
-        parts.push(packet(2, cmd, flags, &data[from..cut]));
-        from = cut;
-    }
-    parts.push(packet(2, cmd, 3, &data[from..]));
-    parts
-}
-
 /// The packets of one transfer, now and then with something wrong in them.
 fn transfer(rng: &mut Rng, parts: &mut Vec<Vec<u8>>) {
     let command = command(rng);
@@ -492,9 +467,37 @@ fn transfer(rng: &mut Rng, parts: &mut Vec<Vec<u8>>) {
             rng.bytes(length)
         }
     };
+    // The pieces, from one cut to some; a piece may be empty.
+    let mut cuts: Vec<usize> = (0..1 + rng.below(3))
+        .map(|_| rng.below(data.len() + 1))
+        .collect();
+    if rng.one_in(6) {
+        cuts.push(data.len());
+        cuts.push(data.len());
+    }
+    if rng.one_in(6) {
+        cuts.push(0);
+    }
+    cuts.sort();
+    let mut from = 0;
+    let mut pieces = Vec::new();
+    for cut in cuts {
+        pieces.push(&data[from..cut]);
+        from = cut;
+    }
+    let end = pieces.len();
+    pieces.push(&data[from..]);
     let first = parts.len();
-    parts.extend(cut_up(rng, cmd, &data));
-    let end = parts.len() - 1 - first;
+    for (i, piece) in pieces.iter().enumerate() {
+        let flags = if i == 0 {
+            1
+        } else if i == end {
+            3
+        } else {
+            2
+        };
+        parts.push(packet(2, cmd, flags, piece));
+    }
     match rng.below(16) {
         // Something between, for this command or another.
         0 | 1 => {
@@ -659,43 +662,6 @@ pub fn every_fault() -> Vec<(Command, Vec<u8>, usize)> {
     all
 }
 
-/// Packets that a factory head acknowledges one and all, with no transfer left open. Half of the times they are
-/// a whole write of some commands, once each and of other values than the factory's; otherwise there are
-/// transfers among them, and values that are written again, overwritten or taken back.
-pub fn acknowledged(rng: &mut Rng) -> Vec<Vec<u8>> {
-    let once = rng.one_in(2);
-    let mut commands = Command::ALL.to_vec();
-    let kept = if once { 9 } else { 1 + rng.below(9) };
-    while commands.len() > kept {
-        commands.swap_remove(rng.below(commands.len()));
-    }
-    let mut mode = 0;
-    let mut parts = Vec::new();
-    for _ in 0..rng.below(10) {
-        let at = rng.below(commands.len());
-        let next = if once {
-            commands.swap_remove(at)
-        } else {
-            commands[at]
-        };
-        let data = match next {
-            Command::Run if mode != 4 && once => continue,
-            Command::Run if mode != 4 => vec![0],
-            _ if !once && rng.one_in(4) => Settings::FACTORY.get(next).to_vec(),
-            _ => another(rng, next),
-        };
-        if next == Command::Mode {
-            mode = data[0];
-        }
-        if once || rng.one_in(2) {
-            parts.push(packet(2, next.bytes(), 0, &data));
-        } else {
-            parts.extend(cut_up(rng, next.bytes(), &data));
-        }
-    }
-    parts
-}
-
 // ---------------------------------------------------------------------------------------------
 // Controllers
 
@@ -727,98 +693,6 @@ pub fn doubtful_settings(rng: &mut Rng) -> Settings {
         }
     }
     settings
-}
-
-/// The bytes on the wire of each field of the settings, in layout order.
-pub const WIDTHS: [usize; 30] = [
-    1, 1, 2, 2, 2, 1, 1, 1, 1, 1, 1, 1, 2, 2, 2, 2, 2, 2, 1, 1, 1, 1, 1, 1, 1, 4, 4, 4, 1, 1,
-];
-
-/// Each of these fields: its command, and its place in the settings. X and Y are one, since neither can change
-/// alone.
-fn fields() -> Vec<(Command, Range<usize>)> {
-    let pair = Command::Input.place().0;
-    let of = |place: Range<usize>| {
-        let holds = |c: &Command| place.end <= c.place().0 + c.size();
-        let command = Command::ALL.into_iter().find(holds).expect("a command");
-        (command, place)
-    };
-    let mut end = 0;
-    let places = WIDTHS.map(|width| {
-        end += width;
-        end - width..end
-    });
-    let apart = places
-        .into_iter()
-        .filter(|place| !(pair..pair + 4).contains(&place.start));
-    apart.chain([pair..pair + 4]).map(of).collect()
-}
-
-/// Settings in rule in which no field is changed from the factory's, or one, or some, or a byte of them. Run 1
-/// brings mode 4.
-pub fn few_changed(rng: &mut Rng) -> Settings {
-    let fields = fields();
-    let mut settings = Settings::FACTORY;
-    for _ in 0..rng.pick(&[0, 1, 1, 1, 1, 2, 2, 3, 5]) {
-        let which = command(rng);
-        let of_it: Vec<_> = fields.iter().filter(|(c, _)| *c == which).collect();
-        let mut place = of_it[rng.below(of_it.len())].1.clone();
-        if rng.one_in(4) {
-            place.start += rng.below(place.len());
-            place.end = place.start + 1;
-        }
-        let mut other = settings;
-        other.set(which, &another(rng, which));
-        let mut next = settings;
-        next.0[place.clone()].copy_from_slice(&other.0[place]);
-        if next.get(Command::Run) == [1] {
-            next.set(Command::Mode, &[4]);
-        }
-        if next.in_rule() {
-            settings = next;
-        }
-    }
-    settings
-}
-
-/// Settings in rule in which commands are changed from the factory's, from none to all.
-pub fn many_changed(rng: &mut Rng) -> Settings {
-    let mut settings = Settings::FACTORY;
-    let most = rng.below(10);
-    for command in Command::ALL {
-        if rng.below(9) < most {
-            settings.set(command, &another(rng, command));
-        }
-    }
-    if settings.get(Command::Mode) != [4] {
-        settings.set(Command::Run, &[0]);
-    }
-    settings
-}
-
-/// Data that a command allows and that are not the factory's.
-fn another(rng: &mut Rng, command: Command) -> Vec<u8> {
-    loop {
-        let data = allowed(rng, command);
-        if data != Settings::FACTORY.get(command) {
-            return data;
-        }
-    }
-}
-
-/// Settings for every set of commands whose values are changed from the factory's, some times over. Run 1
-/// outside mode 4 is among them.
-pub fn every_change() -> impl Iterator<Item = Settings> {
-    let mut rng = Rng::new(6, 6);
-    (0..4 << 9).map(move |set: u32| {
-        let mut settings = Settings::FACTORY;
-        for (k, command) in Command::ALL.into_iter().enumerate() {
-            if set >> k & 1 == 1 {
-                settings.set(command, &another(&mut rng, command));
-            }
-        }
-        settings
-    })
 }
 
 /// Values over 255 in one or two of the wider fields; their low bytes are often allowed.
@@ -1402,32 +1276,21 @@ impl Report {
             .unwrap_or(0)
     }
 
-    /// What each trial ended with.
-    pub fn ends(&self) -> impl Iterator<Item = Settings> + '_ {
-        self.trials
+    /// What the winner's trial ended with.
+    fn end_settings(&self) -> Settings {
+        let to = (self.winner + 1).min(self.trials.len());
+        self.trials[..to]
             .iter()
-            .scan(Settings::FACTORY, |from, (_, packets)| {
-                *from = model::play(*from, packets).settings;
-                Some(*from)
+            .fold(Settings::FACTORY, |from, (_, packets)| {
+                model::play(from, packets).settings
             })
     }
 
-    /// What the winner's trial ended with; where there is no such trial, the last one.
-    pub fn end_settings(&self) -> Settings {
-        let ends = self.ends().take(self.winner + 1);
-        ends.last().unwrap_or(Settings::FACTORY)
+    fn ship_standard_list(&mut self) {
+        let mut list = [0; 128];
+        let length = model::standard_list(&self.end_settings(), &mut list).unwrap_or(0);
+        self.shipping = list[..length].to_vec();
     }
-
-    fn ship_list(&mut self, list: List) {
-        self.shipping = listed(list, &self.end_settings());
-    }
-}
-
-/// The bytes of a list; none where it is refused.
-pub fn listed(list: List, settings: &Settings) -> Vec<u8> {
-    let mut out = [0; model::LIST_OUTPUT];
-    let length = model::list(list, settings, &mut out).unwrap_or(0);
-    out[..length].to_vec()
 }
 
 fn trial_packets(rng: &mut Rng, most: usize) -> Vec<u8> {
@@ -1472,12 +1335,6 @@ fn named_right(rng: &mut Rng) -> Report {
         after: Vec::new(),
     };
     report.winner = report.first_lowest();
-    if rng.one_in(3) {
-        // A sequence that runs in the end: then the order of what is shipped matters.
-        let packets = &mut report.trials[report.winner].1;
-        packets.extend(packet(2, Command::Mode.bytes(), 0, &[4]));
-        packets.extend(packet(2, Command::Run.bytes(), 0, &[1]));
-    }
     report
 }
 
@@ -1524,10 +1381,10 @@ fn beside_the_list(rng: &mut Rng) -> Vec<u8> {
     }
 }
 
-/// Ships a list with faults among its packets, and perhaps with a transfer left open and an unfinished
+/// Ships the list with faults among its packets, and perhaps with a transfer left open and an unfinished
 /// packet at its end: several places, of which refusal 18 has to name the earliest.
 fn offend(rng: &mut Rng, report: &mut Report) {
-    report.ship_list(rng.pick(&List::ALL));
+    report.ship_standard_list();
     let mut parts = packets(&report.shipping);
     if rng.one_in(2) {
         parts.truncate(rng.below(parts.len() + 1));
@@ -1556,9 +1413,9 @@ fn offend(rng: &mut Rng, report: &mut Report) {
     report.shipping = parts.concat();
 }
 
-/// Shipping packets: the standard list or the short one, others with the same settings, and wrong ones.
+/// Shipping packets: the standard list, other lists with the same settings, and wrong ones.
 fn ship(rng: &mut Rng, report: &mut Report) {
-    report.ship_list(rng.pick(&List::ALL));
+    report.ship_standard_list();
     match rng.below(20) {
         0 => report.shipping = report.trials[report.winner].1.clone(),
         1 => {
@@ -1586,7 +1443,7 @@ fn ship(rng: &mut Rng, report: &mut Report) {
         }
         7 => report.shipping.extend(faulty(rng, 40)),
         8 => {
-            // In front, a transfer that the standard list then overwrites.
+            // In front, a transfer that the list then overwrites.
             let mut parts = Vec::new();
             transfer(rng, &mut parts);
             parts.push(std::mem::take(&mut report.shipping));
@@ -1600,38 +1457,12 @@ fn ship(rng: &mut Rng, report: &mut Report) {
             report.shipping.extend(packet(2, [4, 0], 1, &data[..cut]));
             report.shipping.extend(packet(2, [4, 0], 3, &data[cut..]));
         }
-        10 if !report.shipping.is_empty() => {
+        10 => {
             let at = rng.below(report.shipping.len());
             report.shipping[at] ^= 1 << rng.below(8);
         }
         _ => {}
     }
-}
-
-/// Ships the short list: as it is, without one of its packets, in another order, or that of another trial.
-fn ship_short_list(rng: &mut Rng, report: &mut Report) {
-    report.ship_list(List::Short);
-    let mut parts = packets(&report.shipping);
-    let any = rng.below(parts.len().max(1));
-    match rng.below(4) {
-        _ if parts.is_empty() => {}
-        0 => {}
-        1 => {
-            // The first is that of the mode, where run needs it.
-            parts.remove(rng.pick(&[0, any]));
-        }
-        2 => {
-            // By one place, so that run, where it is written, comes before the mode; or by any.
-            let places = rng.pick(&[1, any]);
-            parts.rotate_right(places);
-        }
-        _ => {
-            let trial = rng.below(report.trials.len());
-            let end = report.ends().nth(trial).unwrap_or(Settings::FACTORY);
-            parts = packets(&listed(List::Short, &end));
-        }
-    }
-    report.shipping = parts.concat();
 }
 
 /// Fills the report to this many bytes with packets of trial 0, whole ones or a half one; the
@@ -1746,7 +1577,7 @@ pub fn report(rng: &mut Rng) -> Vec<u8> {
     if limit && report.bytes().len() < 40_000 {
         let size = rng.pick(&[60_000, 60_000, 60_001, 59_999]);
         fill(rng, &mut report, size);
-        report.ship_list(List::Standard);
+        report.ship_standard_list();
         return report.bytes();
     }
     if rng.one_in(6) {
@@ -1761,10 +1592,6 @@ pub fn report(rng: &mut Rng) -> Vec<u8> {
     }
     if rng.one_in(5) {
         offend(rng, &mut report);
-        return report.bytes();
-    }
-    if rng.one_in(5) {
-        ship_short_list(rng, &mut report);
         return report.bytes();
     }
     ship(rng, &mut report);

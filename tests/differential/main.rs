@@ -3,12 +3,10 @@
 //!     differential [N] [SEED] [--plant K] [--exact]
 //!     differential --cases FILE...
 //!
-//! N packets and N/10 reports (1,000,000 and 100,000), and with every few packets some that are judged,
-//! judgements that are carried out, and shipping lists. After each call what it returns, every field of the
-//! controller, the numbers or the verdict that it fills, which hold EE before, every byte of a judgement and of
-//! the output are compared. A list that is written is sent to a fresh head, which must end with its settings;
-//! packets that a head acknowledges must not be fewer bytes than the short list; and a report that ships a list
-//! must be accepted. A case that differs is made smaller, printed as hex, and the exit status
+//! N packets and N/10 reports (1,000,000 and 100,000), and with every few packets some that are judged and
+//! judgements that are carried out. After each call what it returns, every field of the controller, the
+//! numbers or the verdict that it fills, which hold EE before, every byte of a judgement and of the output
+//! are compared. A case that differs is made smaller, printed as hex, and the exit status
 //! is 1. --plant K puts fault K into the model, to see that it is found. --exact lends the library
 //! memory of exactly the length named, for valgrind. --cases takes the stored cases of the crate
 //! vectors (scripts/vectors-data says how they are laid out) in the place of generated ones; those of
@@ -20,8 +18,8 @@ mod generate;
 mod model;
 
 use ffi::{Emitted, Judged, Receipt, Wide};
-use generate::{Report, Rng, WIDTHS};
-use model::{Command, Controller, Judgement, List, Progress, Settings, Transfer};
+use generate::{Report, Rng};
+use model::{Command, Controller, Judgement, Progress, Settings, Transfer};
 use std::fmt::Write;
 
 const USAGE: &str = "usage: differential [N] [SEED] [--plant K] [--exact]
@@ -32,7 +30,7 @@ const ALL: usize = usize::MAX;
 /// Bytes behind an output that no call may touch.
 const BEHIND: usize = 16;
 /// The longest output that is lent, and room for it with as many bytes before and behind it.
-const LONGEST: usize = 260;
+const LONGEST: usize = 130;
 const LENT: usize = BEHIND + LONGEST + BEHIND;
 
 /// What came up, and how often.
@@ -50,13 +48,13 @@ struct Tally {
     one_byte_calls: u64,
     packets: u64,
     encoded: u64,
-    lists: Lists,
+    lists: u64,
     reports: u64,
     damaged: u64,
     /// Controllers in rule with a sum left over and nothing half received: no transfer open, and one.
     left_over: [u64; 2],
-    /// Values over 255 in lent settings: of a controller, of the encoder, of each list.
-    wide: [u64; 4],
+    /// Values over 255 in lent settings: of a controller, of the encoder, of the standard list.
+    wide: [u64; 3],
     /// Payloads of 1,024, of 1,025 and of 65,535 bytes.
     long: [u64; 3],
     resets: u64,
@@ -64,56 +62,6 @@ struct Tally {
     asked: Asked,
     /// Reports that were refused with 18, by what their shipping bytes have.
     offences: [u64; OFFENCES.len()],
-    /// Reports that name the right trial, by what they ship and by the verdict.
-    shipped: [[u64; 21]; SHIPPED.len()],
-}
-
-/// Shipping lists.
-#[derive(Default)]
-struct Lists {
-    /// Of each list the answers, by refusal.
-    answers: [[u64; 4]; 2],
-    /// Short lists by how many commands they write, and those of one command by that.
-    written: [u64; 10],
-    alone: [u64; 9],
-    /// Short lists in mode 4: without run, and with it.
-    runs: [u64; 2],
-    /// Short lists that were refused with 1 though they have room, and with 1 where 3 holds too.
-    would_fit: u64,
-    both: u64,
-    /// Acknowledged packets that are as long as the short list, and longer ones; those with a transfer, and
-    /// those that write a command twice.
-    sequences: [u64; 2],
-    transfers: u64,
-    again: u64,
-}
-
-impl Lists {
-    fn note(&mut self, s: &Shipment, answer: &Emitted, out: &[u8]) {
-        self.answers[s.list as usize][answer.refusal as usize] += 1;
-        if s.list == List::Standard {
-            return;
-        }
-        let mut settings = s.settings;
-        s.wide.tell(&mut settings);
-        let fits = generate::listed(List::Short, &settings).len() <= s.out;
-        match answer.refusal {
-            0 => {
-                let parts = generate::packets(&out[..answer.size as usize]);
-                self.written[parts.len()] += 1;
-                if let [only] = &parts[..] {
-                    let command = Command::from_bytes(only[1], only[2]);
-                    self.alone[command.map_or(0, |c| c as usize)] += 1;
-                }
-                if settings.get(Command::Mode) == [4] {
-                    self.runs[settings.get(Command::Run)[0] as usize] += 1;
-                }
-            }
-            1 if settings.in_rule() => self.would_fit += fits as u64,
-            1 => self.both += 1,
-            _ => {}
-        }
-    }
 }
 
 /// Packets with a value that is not allowed.
@@ -289,38 +237,6 @@ fn offences(shipping: &[u8]) -> [bool; OFFENCES.len()] {
     ]
 }
 
-/// What a report may ship that names the right trial.
-const SHIPPED: [&str; 6] = [
-    "the standard list",
-    "the short list",
-    "nothing, where nothing differs",
-    "the short list without one packet",
-    "the short list in another order",
-    "the short list of another trial",
-];
-
-fn shipped(report: &Report) -> [bool; SHIPPED.len()] {
-    let end = report.end_settings();
-    let [standard, short] = List::ALL.map(|list| generate::listed(list, &end));
-    let shipping = &report.shipping;
-    let (mut due, mut sent) = (generate::packets(&short), generate::packets(shipping));
-    let without = |at: usize| [&due[..at], &due[at + 1..]].concat() == sent;
-    let one_less = (0..due.len()).any(without);
-    let others = report.ends().filter(|other| *other != end);
-    let of_another = others.map(|other| generate::listed(List::Short, &other));
-    let of_another = { of_another }.any(|list| list == *shipping);
-    due.sort();
-    sent.sort();
-    [
-        *shipping == standard,
-        *shipping == short && !short.is_empty(),
-        shipping.is_empty() && short.is_empty(),
-        one_less,
-        due == sent && *shipping != short,
-        of_another,
-    ]
-}
-
 /// A stream of bytes for one controller: the cuts and the output lengths are used in turn.
 #[derive(Clone, PartialEq)]
 struct Stream {
@@ -346,16 +262,6 @@ struct Question {
     canary: u8,
 }
 
-/// Settings that a list is asked for. Where that is not refused the list is sent to a fresh head, in pieces.
-#[derive(Clone, PartialEq)]
-struct Shipment {
-    list: List,
-    settings: Settings,
-    wide: Wide,
-    out: usize,
-    cuts: Vec<usize>,
-}
-
 /// A judgement that is carried out on a controller.
 #[derive(Clone, PartialEq)]
 struct Errand {
@@ -377,9 +283,11 @@ enum Case {
         wide: Wide,
         out: usize,
     },
-    List(Shipment),
-    /// Packets that a factory head acknowledges.
-    Sequence(Vec<Vec<u8>>),
+    List {
+        settings: Settings,
+        wide: Wide,
+        out: usize,
+    },
     Report(Vec<u8>),
 }
 
@@ -558,7 +466,7 @@ impl Harness {
 
     fn run(&mut self, case: &Case) -> Result<(), String> {
         match case {
-            Case::Stream(stream) => self.run_stream(stream).map(|_| ()),
+            Case::Stream(stream) => self.run_stream(stream),
             Case::Judge(question) => self.run_question(question),
             Case::Carry(errand) => {
                 let answer = self.carry_out(errand)?;
@@ -582,8 +490,22 @@ impl Harness {
                 self.tally.emit_refusals[answer.refusal as usize] += 1;
                 Ok(())
             }
-            Case::List(shipment) => self.run_shipment(shipment),
-            Case::Sequence(parts) => self.run_sequence(parts),
+            Case::List {
+                settings,
+                wide,
+                out,
+            } => {
+                let (ours, theirs) = lent(settings, wide);
+                let (answer, _) = self.lend(
+                    *out,
+                    0x5A,
+                    |b| self.emit(|size| ffi::standard_list(&theirs, b, size)),
+                    |b| model::standard_list(&ours, b).into(),
+                )?;
+                self.tally.lists += 1;
+                self.tally.emit_refusals[answer.refusal as usize] += 1;
+                Ok(())
+            }
             Case::Report(bytes) => {
                 let lent: Box<[u8]> = if self.exact {
                     bytes[..].into()
@@ -601,12 +523,13 @@ impl Harness {
                 }
                 self.tally.reports += 1;
                 self.tally.verdicts[refusal as usize] += 1;
-                match Report::parse(bytes) {
-                    Some(report) if matches!(refusal, 0 | 18 | 19) => {
-                        self.run_shipped(&report, &answer)
+                if let (18, Some(report)) = (refusal, Report::parse(bytes)) {
+                    let had = offences(&report.shipping);
+                    for (count, had) in self.tally.offences.iter_mut().zip(had) {
+                        *count += had as u64;
                     }
-                    _ => Ok(()),
                 }
+                Ok(())
             }
         }
     }
@@ -623,8 +546,7 @@ impl Harness {
         std::process::exit(1);
     }
 
-    /// The types of the responses, and the library's head afterwards.
-    fn run_stream(&mut self, stream: &Stream) -> Result<(Vec<u8>, Box<ffi::Controller>), String> {
+    fn run_stream(&mut self, stream: &Stream) -> Result<(), String> {
         let bytes = stream.parts.concat();
         let mut ours = stream.start;
         stream.wide.tell(&mut ours.state.settings);
@@ -632,7 +554,6 @@ impl Harness {
         stream.wide.put(&mut theirs.settings);
         let mut at = 0;
         let mut idle = 0;
-        let mut types = Vec::new();
         for call in 0.. {
             let cut = stream.cuts[call % stream.cuts.len()].min(bytes.len() - at);
             let length = stream.outs[call % stream.outs.len()];
@@ -659,7 +580,6 @@ impl Harness {
             self.note(cut, &answer, &out);
             if answer.size > 0 {
                 self.tally.values.note(&ours, held, &answer, &out);
-                types.push(out[0]);
             }
             at += answer.taken as usize;
             idle = if answer.taken == 0 { idle + 1 } else { 0 };
@@ -676,122 +596,6 @@ impl Harness {
                 return Err(format!("after reset: {what}"));
             }
             self.tally.resets += 1;
-        }
-        Ok((types, theirs))
-    }
-
-    fn run_shipment(&mut self, s: &Shipment) -> Result<(), String> {
-        let (ours, theirs) = lent(&s.settings, &s.wide);
-        let (answer, out) = self.lend(
-            s.out,
-            0x5A,
-            |b| self.emit(|size| ffi::list(s.list, &theirs, b, size)),
-            |b| {
-                let mut answer = Emitted::from(model::list(s.list, &ours, b));
-                if answer.refusal != 0 && s.list == List::Short && model::planted(131) {
-                    answer.size = ffi::UNSET;
-                }
-                answer
-            },
-        )?;
-        if answer.refusal == 0 {
-            self.play(&out[..answer.size as usize], &s.cuts, &ours)?;
-        }
-        self.tally.emit_refusals[answer.refusal as usize] += 1;
-        self.tally.lists.note(s, &answer, &out);
-        Ok(())
-    }
-
-    /// Sends packets to a fresh head in these pieces: it acknowledges each, and ends with these settings, nothing
-    /// half received and no transfer open. The model's play says the same.
-    fn play(&mut self, bytes: &[u8], cuts: &[usize], settings: &Settings) -> Result<(), String> {
-        let mut stream = sent(bytes.to_vec(), 64);
-        stream.cuts = cuts.to_vec();
-        // These packets do not count among those that are to be tried.
-        let tally = std::mem::take(&mut self.tally);
-        let heard = self.run_stream(&stream);
-        self.tally = tally;
-        let (types, head) = heard.map_err(|what| format!("played: {what}"))?;
-        let acknowledged = types == vec![3; generate::packets(bytes).len()];
-        let at_rest = head.registers.received == 0 && head.registers.active == 0;
-        if !acknowledged || !at_rest || head.settings != settings.into() {
-            return Err(format!("played, {}: types {types:?}, {head:?}", hex(bytes)));
-        }
-        let played = model::play(Settings::FACTORY, bytes);
-        // A planted fault is for the library to find.
-        if model::planted(0) && (played.offence().is_some() || played.settings != *settings) {
-            let end = hex(&played.settings.0);
-            return Err(format!("played by the model, {}: {end}", hex(bytes)));
-        }
-        Ok(())
-    }
-
-    /// Packets that are acknowledged, with no transfer left open, are not fewer bytes than the short list of the
-    /// settings that they lead to. Of any others nothing is claimed.
-    fn run_sequence(&mut self, parts: &[Vec<u8>]) -> Result<(), String> {
-        let bytes = parts.concat();
-        let played = model::play(Settings::FACTORY, &bytes);
-        if played.offence().is_some() {
-            return Ok(());
-        }
-        self.play(&bytes, &[ALL], &played.settings)?;
-        let settings = ffi::Settings::from(&played.settings);
-        let mut out = [0; model::LIST_OUTPUT];
-        let list = self.emit(|size| ffi::short_list(&settings, &mut out, size))?;
-        if list.refusal != 0 || list.size > bytes.len() as u64 {
-            return Err(format!(
-                "{} bytes do it, and the list is {list:?}",
-                bytes.len()
-            ));
-        }
-        let longer = bytes.len() as u64 > list.size;
-        let lists = &mut self.tally.lists;
-        lists.sequences[longer as usize] += 1;
-        lists.transfers += parts.iter().any(|part| part[3] != 0) as u64;
-        // Flags 00 and 03 carry a write out.
-        let carries = parts.iter().filter(|part| matches!(part[3], 0 | 3));
-        let mut written: Vec<_> = carries.map(|part| [part[1], part[2]]).collect();
-        let count = written.len();
-        written.sort();
-        written.dedup();
-        lists.again += (written.len() < count) as u64;
-        Ok(())
-    }
-
-    /// A report that keeps the layout and names the right trial, by what it ships.
-    fn run_shipped(&mut self, report: &Report, answer: &Judged) -> Result<(), String> {
-        let verdict = answer.refusal as usize;
-        if verdict == 18 {
-            let had = offences(&report.shipping);
-            for (count, had) in self.tally.offences.iter_mut().zip(had) {
-                *count += had as u64;
-            }
-        }
-        for (counts, had) in self.tally.shipped.iter_mut().zip(shipped(report)) {
-            counts[verdict] += had as u64;
-        }
-        // A planted fault is for the comparison to find.
-        if model::planted(0) {
-            self.owed(report, answer)?;
-        }
-        Ok(())
-    }
-
-    /// Such a report is accepted where it ships one of the library's lists for that trial's end settings.
-    fn owed(&self, report: &Report, answer: &Judged) -> Result<(), String> {
-        let settings = report.end_settings();
-        let due = Judged::from(Ok(model::Accepted {
-            trial: report.winner,
-            score: report.trials[report.winner].0,
-            settings,
-        }));
-        for list in List::ALL {
-            let lent = ffi::Settings::from(&settings);
-            let mut out = [0; model::LIST_OUTPUT];
-            let written = self.emit(|size| ffi::list(list, &lent, &mut out, size))?;
-            if report.shipping == out[..written.size as usize] && *answer != due {
-                return Err(format!("{list:?} list: {answer:?}, due {due:?}"));
-            }
         }
         Ok(())
     }
@@ -1100,36 +904,28 @@ fn errand(rng: &mut Rng) -> Case {
     }))
 }
 
-/// A length about those that matter to a list: the least outputs, and the length of the standard one.
-fn list_output(rng: &mut Rng) -> usize {
-    match rng.below(8) {
-        0 => rng.below(LONGEST + 1),
-        1 => rng.pick(&[0, 1, 63, 64, 65, 110, 111, 112, 200, 255, 256, LONGEST]),
-        2 => 127,
-        _ => 126 + rng.below(5),
-    }
-}
-
 fn emit_case(rng: &mut Rng) -> Case {
-    let settings = match rng.below(6) {
-        0 | 1 => generate::settings_in_rule(rng),
-        2 => generate::doubtful_settings(rng),
-        3 => generate::many_changed(rng),
-        _ => generate::few_changed(rng),
+    let settings = if rng.one_in(2) {
+        generate::settings_in_rule(rng)
+    } else {
+        generate::doubtful_settings(rng)
     };
     let wide = if rng.one_in(8) {
         generate::wide_settings(rng)
     } else {
         Wide::default()
     };
-    if rng.one_in(2) {
-        return Case::List(Shipment {
-            list: rng.pick(&[List::Standard, List::Short, List::Short]),
+    if rng.one_in(3) {
+        let out = if rng.one_in(4) {
+            rng.below(131)
+        } else {
+            126 + rng.below(5)
+        };
+        return Case::List {
             settings,
             wide,
-            out: list_output(rng),
-            cuts: cuts(rng, model::LIST),
-        });
+            out,
+        };
     }
     let cmd = if rng.one_in(8) {
         [rng.below(6) as u8, rng.below(9) as u8]
@@ -1149,9 +945,9 @@ fn emit_case(rng: &mut Rng) -> Case {
     }
 }
 
-/// Bytes for a fresh controller.
-fn sent(bytes: Vec<u8>, out: usize) -> Stream {
-    Stream {
+/// One packet for a fresh controller.
+fn single(bytes: Vec<u8>, out: usize) -> Case {
+    Case::Stream(Box::new(Stream {
         start: Controller::default(),
         wide: Wide::default(),
         parts: vec![bytes],
@@ -1159,24 +955,7 @@ fn sent(bytes: Vec<u8>, out: usize) -> Stream {
         outs: vec![out],
         canary: 0x3C,
         reset: false,
-    }
-}
-
-fn single(bytes: Vec<u8>, out: usize) -> Case {
-    Case::Stream(Box::new(sent(bytes, out)))
-}
-
-/// Both lists of these settings, sent in one piece.
-fn lists(settings: Settings, wide: Wide, out: usize) -> [Case; 2] {
-    List::ALL.map(|list| {
-        Case::List(Shipment {
-            list,
-            settings,
-            wide,
-            out,
-            cuts: vec![ALL],
-        })
-    })
+    }))
 }
 
 /// What is few enough to try all of: output lengths, commands, types, flags, single values and the fields
@@ -1195,8 +974,17 @@ fn swept() -> impl Iterator<Item = Case> {
             .map(read)
             .into_iter()
             .chain([vec![], vec![2], vec![7; 14]]);
+        let list = Case::List {
+            settings: factory,
+            wide: Wide::default(),
+            out,
+        };
         let calls = packets.map(move |bytes| single(bytes, out));
-        Command::ALL.into_iter().map(encode).chain(calls)
+        Command::ALL
+            .into_iter()
+            .map(encode)
+            .chain([list])
+            .chain(calls)
     });
     let commands = (0..=0xFFFF).flat_map(move |n: u16| {
         let cmd = n.to_be_bytes();
@@ -1229,17 +1017,21 @@ fn swept() -> impl Iterator<Item = Case> {
             }
             let write = generate::packet(2, command.bytes(), 0, &data);
             let cmd = command.bytes();
-            let encode = Case::Encode {
-                cmd,
-                settings,
-                wide: Wide::default(),
-                out: 64,
-            };
-            [encode, single(write, 64), start].into_iter().chain(lists(
-                settings,
-                Wide::default(),
-                128,
-            ))
+            [
+                Case::Encode {
+                    cmd,
+                    settings,
+                    wide: Wide::default(),
+                    out: 64,
+                },
+                Case::List {
+                    settings,
+                    wide: Wide::default(),
+                    out: 128,
+                },
+                single(write, 64),
+                start,
+            ]
         });
     // Every set of fields that are not allowed: whole, with a good packet behind it and half a one, in a
     // transfer cut at each place, and with faults that come before the values.
@@ -1332,11 +1124,12 @@ fn swept() -> impl Iterator<Item = Case> {
                 wide,
                 out: 64,
             };
-            Command::ALL
-                .into_iter()
-                .map(encode)
-                .chain([start])
-                .chain(lists(factory, wide, 128))
+            let list = Case::List {
+                settings: factory,
+                wide,
+                out: 128,
+            };
+            Command::ALL.into_iter().map(encode).chain([list, start])
         })
     });
     lengths
@@ -1348,20 +1141,7 @@ fn swept() -> impl Iterator<Item = Case> {
         .chain(counts)
         .chain(held)
         .chain(wides)
-        .chain(swept_lists())
         .chain(swept_judgements())
-}
-
-/// Lists to outputs of every length: of factory values, and of settings with each set of commands changed, those
-/// to lengths that matter.
-fn swept_lists() -> impl Iterator<Item = Case> {
-    let lengths = (0..=LONGEST).flat_map(|out| lists(Settings::FACTORY, Wide::default(), out));
-    let changes = generate::every_change().flat_map(|settings| {
-        [0, 63, 64, 110, 111, 127, 128, 129, 200, LONGEST]
-            .into_iter()
-            .flat_map(move |out| lists(settings, Wide::default(), out))
-    });
-    lengths.chain(changes)
 }
 
 /// The head on which judgements are swept: mode 4, three bytes of 01 04 held, and a packet half received.
@@ -1746,24 +1526,6 @@ fn smaller_settings(
         .filter(move |next| *next != from)
 }
 
-fn smaller_shipment(s: &Shipment) -> Vec<Case> {
-    let whole = Shipment {
-        cuts: vec![ALL],
-        ..s.clone()
-    };
-    smaller_settings(&s.settings, &s.wide, s.out, 128)
-        .map(|(settings, wide, out)| Shipment {
-            settings,
-            wide,
-            out,
-            ..s.clone()
-        })
-        .chain([whole])
-        .filter(|next| next != s)
-        .map(Case::List)
-        .collect()
-}
-
 fn smaller(case: &Case) -> Vec<Case> {
     match case {
         Case::Stream(stream) => smaller_stream(stream),
@@ -1783,9 +1545,16 @@ fn smaller(case: &Case) -> Vec<Case> {
                 out,
             })
             .collect(),
-        Case::List(shipment) => smaller_shipment(shipment),
-        Case::Sequence(parts) => (0..parts.len())
-            .map(|at| Case::Sequence([&parts[..at], &parts[at + 1..]].concat()))
+        Case::List {
+            settings,
+            wide,
+            out,
+        } => smaller_settings(settings, wide, *out, 128)
+            .map(|(settings, wide, out)| Case::List {
+                settings,
+                wide,
+                out,
+            })
             .collect(),
     }
 }
@@ -1842,12 +1611,6 @@ fn show_judgement(name: &str, j: &Judgement) {
     println!("    joined {} then zeros", hex(used(&j.joined)));
 }
 
-fn show_cuts(cuts: &[usize]) {
-    if cuts != [ALL] {
-        println!("  given {cuts:?} bytes at a time");
-    }
-}
-
 fn show(case: &Case) {
     let show_wide = |wide: &Wide| {
         if wide.any() {
@@ -1861,7 +1624,9 @@ fn show(case: &Case) {
             for part in &s.parts {
                 println!("  input: {}", hex(part));
             }
-            show_cuts(&s.cuts);
+            if s.cuts != [ALL] {
+                println!("  given {:?} bytes at a time", s.cuts);
+            }
             println!("  output lengths: {:?}, reset: {}", s.outs, s.reset);
         }
         Case::Judge(q) => {
@@ -1894,20 +1659,16 @@ fn show(case: &Case) {
                 hex(&settings.0)
             );
         }
-        Case::List(s) => {
-            show_wide(&s.wide);
+        Case::List {
+            settings,
+            wide,
+            out,
+        } => {
+            show_wide(wide);
             println!(
-                "  {:?} list, output {} settings {}",
-                s.list,
-                s.out,
-                hex(&s.settings.0)
+                "  standard list, output {out} settings {}",
+                hex(&settings.0)
             );
-            show_cuts(&s.cuts);
-        }
-        Case::Sequence(parts) => {
-            for part in parts {
-                println!("  sent: {}", hex(part));
-            }
         }
         Case::Report(bytes) => println!("  report ({} bytes): {}", bytes.len(), hex(bytes)),
     }
@@ -1915,20 +1676,22 @@ fn show(case: &Case) {
 
 // ---------------------------------------------------------------------------------------------
 
-/// The places, among the fields of the settings, of those that the library has wider; and the settings of a
-/// stored case, which has four bytes for each.
+/// The bytes on the wire of each field of the settings, in layout order, and the places there of those
+/// that the library has wider. A stored case has four bytes for each.
+const FIELDS: [usize; 30] = [
+    1, 1, 2, 2, 2, 1, 1, 1, 1, 1, 1, 1, 2, 2, 2, 2, 2, 2, 1, 1, 1, 1, 1, 1, 1, 4, 4, 4, 1, 1,
+];
 const WIDER: [usize; 4] = [11, 20, 28, 29];
-const STORED: usize = 4 * WIDTHS.len();
 
 /// The settings of a stored case; none where they are of another length, or the library's field has no
 /// room for a number.
 fn stored_settings(bytes: &[u8]) -> Option<(Settings, Wide)> {
-    if bytes.len() != STORED {
+    if bytes.len() != 4 * FIELDS.len() {
         return None;
     }
     let mut settings = Vec::new();
     let mut wide = Wide::default();
-    for (k, (number, size)) in bytes.chunks_exact(4).zip(WIDTHS).enumerate() {
+    for (k, (number, size)) in bytes.chunks_exact(4).zip(FIELDS).enumerate() {
         let value = u32::from_le_bytes(number.try_into().ok()?);
         let wider = WIDER.iter().position(|&place| place == k);
         let bits = wider.map_or(8 * size as u32, |field| Wide::FIELDS[field].1);
@@ -1954,7 +1717,7 @@ fn stored_stream(bytes: &[u8]) -> [Case; 2] {
     })
 }
 
-/// A row of the guide: the stream, the encoder and both lists.
+/// A row of the guide: the stream, the encoder and the standard list.
 fn stored_row(row: &[u8]) -> Option<Vec<Case>> {
     let (&label, rest) = row.split_first()?;
     let (&[cmd1, cmd2, l0, l1], rest) = rest.get(label as usize..)?.split_first_chunk()?;
@@ -1967,7 +1730,11 @@ fn stored_row(row: &[u8]) -> Option<Vec<Case>> {
         wide,
         out: model::OUTPUT,
     });
-    cases.extend(lists(settings, wide, model::LIST_OUTPUT));
+    cases.push(Case::List {
+        settings,
+        wide,
+        out: model::LIST_OUTPUT,
+    });
     Some(cases)
 }
 
@@ -1981,7 +1748,12 @@ fn stored_case(kind: u8, case: &[u8]) -> Option<Vec<Case>> {
         b'l' => {
             let (&[l0, l1], rest) = case.split_first_chunk()?;
             let (settings, wide) = stored_settings(rest)?;
-            lists(settings, wide, room(l0, l1)).into()
+            let out = room(l0, l1);
+            vec![Case::List {
+                settings,
+                wide,
+                out,
+            }]
         }
         b'e' => {
             let (&[cmd1, cmd2, l0, l1], rest) = case.split_first_chunk()?;
@@ -2023,7 +1795,7 @@ impl<'a> Reader<'a> {
 
     /// A controller at a packet boundary.
     fn controller(&mut self) -> Option<(Controller, Wide)> {
-        let (settings, wide) = stored_settings(self.take(STORED)?)?;
+        let (settings, wide) = stored_settings(self.take(4 * FIELDS.len())?)?;
         let mut c = Controller::default();
         c.state.settings = settings;
         c.state.transfer.mark = self.number(1)? as u8;
@@ -2192,49 +1964,6 @@ fn missing(t: &Tally) -> Vec<String> {
             t.emit_refusals[refusal],
         );
     }
-    for (answers, list) in t.lists.answers.iter().zip(List::ALL) {
-        for refusal in [0, 1, 3] {
-            let name = format!("answer {refusal} of the {list:?} list");
-            need(name, answers[refusal]);
-        }
-    }
-    for (count, seen) in t.lists.written.into_iter().enumerate() {
-        need(format!("a short list of {count} commands"), seen);
-    }
-    for (seen, command) in t.lists.alone.into_iter().zip(Command::ALL) {
-        // Run 1 needs mode 4, which is changed too.
-        if command != Command::Run {
-            let cmd = hex(&command.bytes());
-            need(format!("a short list of {cmd} alone"), seen);
-        }
-    }
-    for (seen, run) in t.lists.runs.into_iter().zip([0, 1]) {
-        need(format!("a short list in mode 4 with run {run}"), seen);
-    }
-    need(
-        "refusal 1 of a short list with room".into(),
-        t.lists.would_fit,
-    );
-    need("refusal 1 of a short list before 3".into(), t.lists.both);
-    for (seen, than) in t
-        .lists
-        .sequences
-        .into_iter()
-        .zip(["as long as", "longer than"])
-    {
-        need(format!("packets {than} the short list"), seen);
-    }
-    need("a transfer among such packets".into(), t.lists.transfers);
-    need("a command twice among them".into(), t.lists.again);
-    for (what, verdicts) in [&[0][..], &[0], &[0], &[18, 19], &[0, 18], &[19]]
-        .iter()
-        .enumerate()
-    {
-        for &verdict in *verdicts {
-            let name = format!("verdict {verdict} on {}", SHIPPED[what]);
-            need(name, t.shipped[what][verdict]);
-        }
-    }
     for refusal in 10..21 {
         need(format!("refusal {refusal}"), t.verdicts[refusal]);
     }
@@ -2244,12 +1973,11 @@ fn missing(t: &Tally) -> Vec<String> {
     need("read response".into(), t.read);
     need("encoded".into(), t.emit_refusals[0]);
     need("reset".into(), t.resets);
-    for (seen, of) in t.wide.into_iter().zip([
-        "a controller",
-        "encode",
-        "the standard list",
-        "the short list",
-    ]) {
+    for (seen, of) in t
+        .wide
+        .into_iter()
+        .zip(["a controller", "encode", "the list"])
+    {
         need(format!("a value over 255 in the settings of {of}"), seen);
     }
     for (seen, open) in t.left_over.into_iter().zip(["no", "a"]) {
@@ -2331,35 +2059,22 @@ fn summary(t: &Tally) {
         t.long[0], t.long[1], t.long[2]
     );
     println!(
-        "values over 255: in {} controllers, for {} calls of encode, {} of the standard list and {} of the \
-         short list",
-        t.wide[0], t.wide[1], t.wide[2], t.wide[3]
+        "values over 255: in {} controllers, for {} calls of encode and {} of the standard list",
+        t.wide[0], t.wide[1], t.wide[2]
     );
     let codes: Vec<String> = (0..16)
         .filter(|&code| t.codes[code] > 0)
         .map(|code| format!("{code:02X}: {}", t.codes[code]))
         .collect();
     println!("codes: {}", codes.join(", "));
-    let calls = |list: List| t.lists.answers[list as usize].iter().sum::<u64>();
     println!(
-        "encode: {}, standard list: {}, short list: {}; written: {}, refusal 1: {}, 2: {}, 3: {}",
+        "encode: {}, standard list: {}; written: {}, refusal 1: {}, 2: {}, 3: {}",
         t.encoded,
-        calls(List::Standard),
-        calls(List::Short),
+        t.lists,
         t.emit_refusals[0],
         t.emit_refusals[1],
         t.emit_refusals[2],
         t.emit_refusals[3]
-    );
-    let by_count: Vec<String> = t.lists.written.iter().map(u64::to_string).collect();
-    println!(
-        "short lists played, of none to nine commands: {}; acknowledged packets as long as the short list: {}, \
-         longer: {}, with transfers: {}, with a command twice: {}",
-        by_count.join(", "),
-        t.lists.sequences[0],
-        t.lists.sequences[1],
-        t.lists.transfers,
-        t.lists.again
     );
     let named = |joins: usize| t.values.named[joins].iter().flatten().sum::<u64>();
     let beside: Vec<String> = (0..16)
@@ -2401,12 +2116,6 @@ fn summary(t: &Tally) {
         t.verdicts[0],
         refusals.join(", ")
     );
-    let shipped: Vec<String> = SHIPPED
-        .iter()
-        .zip(t.shipped)
-        .map(|(what, seen)| format!("{what}: {} {} {}", seen[0], seen[18], seen[19]))
-        .collect();
-    println!("accepted, 18 and 19 of shipping {}", shipped.join("; "));
 }
 
 fn main() {
@@ -2491,23 +2200,19 @@ fn main() {
             }
             harness.tally.wide[0] += stream.wide.any() as u64;
             harness.hold(Case::Stream(Box::new(stream)), "stream", seed);
-            // Numbers of their own: the packets of a seed are what they were before requests 5 and 6.
+            let emit = emit_case(&mut rng);
+            match &emit {
+                Case::Encode { wide, .. } => harness.tally.wide[1] += wide.any() as u64,
+                Case::List { wide, .. } => harness.tally.wide[2] += wide.any() as u64,
+                _ => {}
+            }
+            harness.hold(emit, "emit", seed);
+            // Numbers of their own: the packets and reports of a seed are what they were before request 5.
             let mut rng = Rng::new(!seed, number);
             for _ in 0..3 {
                 harness.hold(question(&mut rng), "judging", seed);
                 harness.hold(errand(&mut rng), "carrying out", seed);
             }
-            for _ in 0..4 {
-                let emit = emit_case(&mut rng);
-                match &emit {
-                    Case::Encode { wide, .. } => harness.tally.wide[1] += wide.any() as u64,
-                    Case::List(s) => harness.tally.wide[2 + s.list as usize] += s.wide.any() as u64,
-                    _ => {}
-                }
-                harness.hold(emit, "emit", seed);
-            }
-            let parts = generate::acknowledged(&mut rng);
-            harness.hold(Case::Sequence(parts), "acknowledged packets", seed);
         }
         if harness.tally.reports < count / 10 {
             harness.hold(Case::Report(generate::report(&mut rng)), "report", seed);

@@ -1,6 +1,6 @@
-//! Document 01 once more, and the requests up to 6, in plain Rust: the receiver, the nine commands, judging
-//! a packet and carrying out the judgement, the encoder, the standard list, the short list and the report
-//! checker. It was written from the papers and shares nothing with the crates.
+//! Document 01 once more, and the requests up to 5, in plain Rust: the receiver, the nine commands, judging
+//! a packet and carrying out the judgement, the encoder, the standard list and the report checker. It was
+//! written from the papers and shares nothing with the crates.
 //! The differential test holds the library to it, and the benchmark measures the library against it.
 
 #![allow(dead_code)]
@@ -11,7 +11,7 @@ pub const HOLD: usize = 1024;
 const LARGEST: usize = 17;
 /// The bytes of a packet before its payload.
 pub const HEADER: usize = 6;
-/// The shortest output of a receive call or of the encoder, and of a shipping list.
+/// The shortest output of a receive call or of the encoder, and of the standard list.
 pub const OUTPUT: usize = 64;
 pub const LIST_OUTPUT: usize = 128;
 /// The length of the standard shipping list.
@@ -50,7 +50,7 @@ pub const fn planted(_fault: usize) -> bool {
 }
 
 /// What each planted fault is, from 1.
-pub const PLANTS: [&str; 132] = [
+pub const PLANTS: [&str; 112] = [
     "the last of equal scores is the winner",
     "a transfer stays open after an error packet",
     "error codes descend",
@@ -163,26 +163,6 @@ pub const PLANTS: [&str; 132] = [
     "a carried-out mode other than 4 does not stop the sequence",
     "a refused carrying out leaves what size held",
     "a carried-out response repeats the open command",
-    "the short list writes all commands",
-    "the short list leaves 04 02 out, as if any mode written before it stopped the sequence",
-    "the short list leaves 01 06 out",
-    "the short list leaves 04 00 out",
-    "the short list is in the other order",
-    "the short list writes run before the mode",
-    "the short list writes run wherever the mode is 4",
-    "the short list compares the first field of a command alone",
-    "the short list does not compare the last byte of data that have several",
-    "the short list does not compare the high bytes of 01 04 and 02 00",
-    "the short list compares with zeros",
-    "the short list leaves a command out whose values are zeros",
-    "where nothing differs the short list writes all commands",
-    "the short list takes an output of 127 bytes",
-    "the short list takes an output that it fits in",
-    "the short list does not test the settings",
-    "the short list tests 3 before 1",
-    "the byte behind the short list is written",
-    "a refused short list leaves what size held",
-    "shipping no packets is refused with 18",
 ];
 
 // ---------------------------------------------------------------------------------------------
@@ -1227,7 +1207,7 @@ impl Controller {
 }
 
 // ---------------------------------------------------------------------------------------------
-// The encoder and the shipping lists
+// The encoder and the standard list
 
 /// The whole-packet write of `data` for a command.
 pub fn encode(
@@ -1246,122 +1226,22 @@ pub fn encode(
     }
 }
 
-/// The shipping lists.
-#[derive(Clone, Copy, PartialEq, Eq, Debug)]
-pub enum List {
-    Standard,
-    Short,
-}
-
-impl List {
-    pub const ALL: [List; 2] = [List::Standard, List::Short];
-}
-
-pub fn list(list: List, settings: &Settings, out: &mut [u8]) -> Result<usize, Refusal> {
-    match list {
-        List::Standard => standard_list(settings, out),
-        List::Short => short_list(settings, out),
-    }
-}
-
-/// Refusals 1 and 3 of a list whose output has this room and needs that.
-#[inline]
-fn list_refusal(settings: &Settings, room: usize, least: usize) -> Result<(), Refusal> {
-    if room < least {
+/// One whole-packet write for each command, in table order.
+pub fn standard_list(settings: &Settings, out: &mut [u8]) -> Result<usize, Refusal> {
+    if out.len() < LIST_OUTPUT {
         return Err(Refusal::Output);
     }
     if !settings.in_rule() {
         return Err(Refusal::State);
     }
-    Ok(())
-}
-
-/// One whole-packet write for each of these commands, and how long they are.
-#[inline]
-fn writes(
-    commands: impl IntoIterator<Item = Command>,
-    settings: &Settings,
-    out: &mut [u8],
-) -> usize {
-    commands.into_iter().fold(0, |at, command| {
-        let data = settings.get(command);
-        at + packet(&mut out[at..], WRITE, command.bytes(), data)
-    })
-}
-
-/// One whole-packet write for each command, in table order.
-pub fn standard_list(settings: &Settings, out: &mut [u8]) -> Result<usize, Refusal> {
-    list_refusal(settings, out.len(), LIST_OUTPUT)?;
-    Ok(writes(Command::ALL, settings, out))
-}
-
-/// The same for those commands alone whose values are not the factory's (request 6).
-pub fn short_list(settings: &Settings, out: &mut [u8]) -> Result<usize, Refusal> {
-    let order = misordered();
-    let changed = || order.into_iter().filter(|&c| changed(settings, c));
-    let least = match () {
-        _ if planted(126) => LIST_OUTPUT - 1,
-        _ if planted(127) => changed().map(|c| HEADER + c.size() + 1).sum(),
-        _ => LIST_OUTPUT,
-    };
-    if planted(129) && !settings.in_rule() {
-        return Err(Refusal::State);
-    }
-    match list_refusal(settings, out.len(), least) {
-        Err(Refusal::State) if planted(128) => {}
-        refused => refused?,
-    }
-    let length = writes(changed(), settings, out);
-    if planted(130) {
-        out[length] = !out[length];
-    }
-    Ok(length)
-}
-
-/// Whether a command has other values than the factory's.
-#[inline]
-fn changed(settings: &Settings, command: Command) -> bool {
-    let (values, factory) = (settings.get(command), Settings::FACTORY.get(command));
-    mistaken(settings, command).unwrap_or_else(|| values != factory)
-}
-
-/// What the planted faults say of that.
-#[inline]
-fn mistaken(settings: &Settings, command: Command) -> Option<bool> {
-    let (values, factory) = (settings.get(command), Settings::FACTORY.get(command));
-    let wide = matches!(command, Current | Input);
-    let zeros = values.iter().all(|&byte| byte == 0);
-    let last = values.len() - 1;
-    let low = |data: &[u8]| data.iter().step_by(2).copied().collect::<Vec<_>>();
-    match command {
-        _ if planted(113) || (planted(125) && *settings == Settings::FACTORY) => Some(true),
-        Run if planted(114) => Some(false),
-        Colour if planted(115) => Some(false),
-        Sequence if planted(116) => Some(false),
-        Run if planted(119) && settings.mode() == 4 => Some(true),
-        _ if planted(120) => {
-            let first = 1 + wide as usize;
-            Some(values[..first] != factory[..first])
-        }
-        _ if planted(121) && last > 0 => Some(values[..last] != factory[..last]),
-        _ if planted(122) && wide => Some(low(values) != low(factory)),
-        _ if planted(123) => Some(!zeros),
-        _ if planted(124) && zeros => Some(false),
-        _ => None,
-    }
-}
-
-/// The order of the short list, which only planted faults change.
-#[inline]
-fn misordered() -> [Command; 9] {
-    let mut order = Command::ALL;
-    if planted(117) {
-        order.reverse();
-    }
-    if planted(118) {
-        order.rotate_right(1);
-    }
-    order
+    Ok(Command::ALL.iter().fold(0, |at, &command| {
+        at + packet(
+            &mut out[at..],
+            WRITE,
+            command.bytes(),
+            settings.get(command),
+        )
+    }))
 }
 
 // ---------------------------------------------------------------------------------------------
@@ -1393,7 +1273,7 @@ pub struct Played {
 
 impl Played {
     /// Where refusal 18 points: at the earliest of these.
-    pub fn offence(&self) -> Option<usize> {
+    fn offence(&self) -> Option<usize> {
         let passed_over = if self.refused.is_some() { 51 } else { 52 };
         if planted(passed_over) && self.unfinished.is_some() {
             return self.unfinished;
@@ -1553,8 +1433,7 @@ pub fn check_report(report: &[u8]) -> Result<Accepted, Rejected> {
         });
     }
     let shipped = play(Settings::FACTORY, shipping);
-    let none = (planted(132) && shipping.is_empty()).then_some(0);
-    if let Some(at) = shipped.offence().or(none) {
+    if let Some(at) = shipped.offence() {
         let place = match () {
             _ if planted(49) => place,
             _ if planted(56) => at,

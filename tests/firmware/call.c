@@ -99,22 +99,21 @@ static void put(const void *p, size_t n) {
 /* ---- what came up, and how often */
 
 enum {
-    STREAMS, LENT_HEADS, RECEIVED, OF_ONE_BYTE, PACKETS, RESETS, ENCODES, LISTS, SHORT_LISTS, REPORTS,
+    STREAMS, LENT_HEADS, RECEIVED, OF_ONE_BYTE, PACKETS, RESETS, ENCODES, LISTS, REPORTS,
     WAITING, WRITTEN, READ, FAULTY, SHORT, RULE,
     CODE_02, CODE_03, CODE_04, CODE_07, CODE_09, CODE_0A, CODE_0B,
     BYTE_0, BYTE_1, BYTE_2, BYTE_3, BYTE_4, BYTE_16,
     JUDGES, JUDGED_ERROR, JUDGED_HOLD, JUDGED_WRITE, JUDGED_READ, JUDGE_RULE, JUDGE_NOT_ONE,
     CARRIES, CARRIED_ERROR, CARRIED_HOLD, CARRIED_WRITE, CARRIED_READ, CARRY_SHORT, CARRY_NOT, CARRY_RULE, CARRY_STALE,
     ENCODED, ENCODE_SHORT, ENCODE_NOT,
-    LISTED, LIST_OUTPUT, LIST_RULE,
-    SHORT_LISTED, SHORT_LIST_OUTPUT, SHORT_LIST_RULE, SHORT_LIST_EMPTY, SHORT_LIST_FULL,
+    LISTED, LIST_SHORT, LIST_RULE,
     ACCEPTED, REFUSED_10, REFUSED_20 = REFUSED_10 + 10,
     KINDS
 };
 
 static const char *const names[KINDS] = {
     "streams: all", "streams: on a lent controller", "receive: calls", "receive: of one byte", "receive: packets",
-    "reset: calls", "encode: calls", "standard_list: calls", "short_list: calls", "check_report: calls",
+    "reset: calls", "encode: calls", "standard_list: calls", "check_report: calls",
     "receive: waiting", "receive: write response", "receive: read response", "receive: error packet",
     "receive: refusal 1", "receive: refusal 3",
     "code: 02", "code: 03", "code: 04", "code: 07", "code: 09", "code: 0A", "code: 0B",
@@ -124,8 +123,6 @@ static const char *const names[KINDS] = {
     "carry_out: refusal 1", "carry_out: refusal 2", "carry_out: refusal 3", "carry_out: refusal 4",
     "encode: written", "encode: refusal 1", "encode: refusal 2",
     "standard_list: written", "standard_list: refusal 1", "standard_list: refusal 3",
-    "short_list: written", "short_list: refusal 1", "short_list: refusal 3", "short_list: of no command",
-    "short_list: of every command",
     "check_report: accepted", "check_report: refusal 10", "check_report: refusal 11", "check_report: refusal 12",
     "check_report: refusal 13", "check_report: refusal 14", "check_report: refusal 15", "check_report: refusal 16",
     "check_report: refusal 17", "check_report: refusal 18", "check_report: refusal 19", "check_report: refusal 20"
@@ -205,14 +202,7 @@ static void saw_emitted(int first, uint32_t refusal, uint32_t other) {
     if (refusal == IMJARLET_NO_REFUSAL) seen[first]++;
     else if (refusal == IMJARLET_SHORT_OUTPUT) seen[first + 1]++;
     else if (refusal == other) seen[first + 2]++;
-    else leave(3, "encoder or list: no such refusal: ", refusal);
-}
-
-static void saw_short_list(uint32_t refusal, uint64_t size) {
-    saw_emitted(SHORT_LISTED, refusal, IMJARLET_OUT_OF_RULE);
-    seen[SHORT_LIST_EMPTY] += refusal == IMJARLET_NO_REFUSAL && size == 0;
-    seen[SHORT_LIST_FULL] += size == IMJARLET_LIST_LENGTH;
-    if (size > IMJARLET_LIST_LENGTH) leave(3, "short_list: longer than the standard one: ", size);
+    else leave(3, "encoder or standard list: no such refusal: ", refusal);
 }
 
 static void saw_verdict(uint32_t refusal) {
@@ -232,7 +222,7 @@ static void saw_verdict(uint32_t refusal) {
  * its lowest end and never writes cannot be seen.
  */
 enum { PAINTED = 8192 };
-enum { OF_RESET, OF_RECEIVE, OF_JUDGE, OF_CARRY_OUT, OF_ENCODE, OF_LIST, OF_SHORT_LIST, OF_REPORT, CALLS };
+enum { OF_RESET, OF_RECEIVE, OF_JUDGE, OF_CARRY_OUT, OF_ENCODE, OF_LIST, OF_REPORT, CALLS };
 
 static uintptr_t deepest[CALLS];
 
@@ -281,7 +271,6 @@ MEASURED(imjarlet_judge)
 MEASURED(imjarlet_carry_out)
 MEASURED(imjarlet_encode)
 MEASURED(imjarlet_standard_list)
-MEASURED(imjarlet_short_list)
 MEASURED(imjarlet_check_report)
 
 /* What is painted at a place: by the place, so that no register and no copy of other words has it. */
@@ -448,44 +437,34 @@ static void encode_again(uint8_t cmd1, uint8_t cmd2, const imjarlet_settings *se
         if (area[i] != wanted[i]) leave(3, "encode: other bytes by what is above the command's: ", i);
 }
 
-/* How many outputs were lent for packets and lists, by which the byte around the next one is chosen. */
-static uint32_t emitted(void) { return seen[ENCODES] + seen[LISTS] + seen[SHORT_LISTS]; }
-
-/*
- * The output's length, and for the encoder the command; then the settings. 'E' is the encoder, 'L' the standard list
- * and 'H' the short one.
- */
+/* The output's length, and for the encoder the command; then the settings. */
 static void emit(uint8_t kind, const uint8_t *p, const uint8_t *end) {
-    int encode = kind == 'E', list = kind == 'L';
+    int encode = kind == 'E';
     size_t length = p[0];
-    uint8_t cmd1 = p[1], cmd2 = p[2], fill = (uint8_t)emitted(), *out = lend(fill);
+    uint8_t cmd1 = p[1], cmd2 = p[2], *out = lend((uint8_t)(seen[ENCODES] + seen[LISTS]));
     imjarlet_settings settings;
     imjarlet_size size;
     uint32_t refusal;
     p += encode ? 3 : 1;
-    if ((size_t)(end - p) != sizeof settings) leave(2, "no such settings: ", emitted());
+    if ((size_t)(end - p) != sizeof settings) leave(2, "no such settings: ", seen[ENCODES] + seen[LISTS]);
     memcpy(&settings, p, sizeof settings);
     if (encode) {
         MEASURE(OF_ENCODE, , imjarlet_encode(cmd1, cmd2, &settings, out, length, &size))
-    } else if (list) {
-        MEASURE(OF_LIST, , imjarlet_standard_list(&settings, out, length, &size))
     } else {
-        MEASURE(OF_SHORT_LIST, , imjarlet_short_list(&settings, out, length, &size))
+        MEASURE(OF_LIST, , imjarlet_standard_list(&settings, out, length, &size))
     }
-    out = lend(fill);
+    out = lend((uint8_t)(seen[ENCODES] + seen[LISTS]));
     memset(&size, OLD, sizeof size);
     refusal = encode ? imjarlet_encode(cmd1, cmd2, &settings, out, length, &size)
-              : list ? imjarlet_standard_list(&settings, out, length, &size)
-                     : imjarlet_short_list(&settings, out, length, &size);
+                     : imjarlet_standard_list(&settings, out, length, &size);
     put(&refusal, sizeof refusal);
     put(&size, sizeof size);
     put(out - BESIDE, BESIDE + length + BESIDE);
     note(&settings, sizeof settings);
-    if (encode) encode_again(cmd1, cmd2, &settings, length, fill, refusal, size);
-    seen[encode ? ENCODES : list ? LISTS : SHORT_LISTS]++;
+    if (encode) encode_again(cmd1, cmd2, &settings, length, (uint8_t)(seen[ENCODES] + seen[LISTS]), refusal, size);
+    seen[encode ? ENCODES : LISTS]++;
     if (encode) saw_emitted(ENCODED, refusal, IMJARLET_NOT_ALLOWED);
-    else if (list) saw_emitted(LISTED, refusal, IMJARLET_OUT_OF_RULE);
-    else saw_short_list(refusal, size);
+    else saw_emitted(LISTED, refusal, IMJARLET_OUT_OF_RULE);
 }
 
 static void report(const uint8_t *p, const uint8_t *end) {
@@ -503,7 +482,7 @@ static void report(const uint8_t *p, const uint8_t *end) {
 static void answer(uint8_t kind, const uint8_t *p, const uint8_t *end) {
     sum = 0xCBF29CE484222325u;
     if (kind == 'S') stream(p, end);
-    else if (kind == 'E' || kind == 'L' || kind == 'H') emit(kind, p, end);
+    else if (kind == 'E' || kind == 'L') emit(kind, p, end);
     else if (kind == 'R') report(p, end);
     else if (kind == 'J' || kind == 'C') ask(kind, p, end);
     else leave(2, "no such kind of case: ", kind);
@@ -521,8 +500,8 @@ static int counted(void) {
 }
 
 static int measured(void) {
-    static const char *const calls[CALLS] = {"reset",  "receive",       "judge",      "carry_out",
-                                             "encode", "standard_list", "short_list", "check_report"};
+    static const char *const calls[CALLS] = {"reset",  "receive",       "judge",       "carry_out",
+                                             "encode", "standard_list", "check_report"};
     int call;
     say_number("controller ", sizeof head, "\n");
     for (call = 0; call < CALLS; call++) {

@@ -12,15 +12,14 @@ mod model;
 
 use ffi::Wide;
 use generate::Rng;
-use model::{Command, Controller, Judgement, List, Settings};
+use model::{Command, Controller, Judgement, Settings};
 use std::io::Write;
 use std::mem::transmute;
 
 /// A cut that leaves all the bytes together.
 const ALL: u32 = u32::MAX;
-/// The longest output that is lent, and for a list.
+/// The longest output that is lent.
 const LONGEST: usize = 130;
-const LONGEST_LIST: usize = 200;
 /// The bytes of settings, and of settings and registers, which a controller begins with.
 const SETTINGS: usize = 56;
 const REGISTERS: usize = 72;
@@ -69,7 +68,7 @@ struct Stream {
 enum Case {
     Stream(Stream),
     Encode([u8; 2], Vec<u8>, usize),
-    List(List, Vec<u8>, usize),
+    List(Vec<u8>, usize),
     Report(Vec<u8>),
     /// A head, and the packet that is judged there and carried out.
     Judge(Vec<u8>, Vec<u8>, usize),
@@ -94,13 +93,7 @@ impl Case {
             Case::Encode(cmd, settings, out) => {
                 [&[b'E', length(out), cmd[0], cmd[1]], &settings[..]].concat()
             }
-            Case::List(list, settings, out) => {
-                let kind = match list {
-                    List::Standard => b'L',
-                    List::Short => b'H',
-                };
-                [&[kind, length(out)], &settings[..]].concat()
-            }
+            Case::List(settings, out) => [&[b'L', length(out)], &settings[..]].concat(),
             Case::Report(report) => [b"R", &report[..]].concat(),
             Case::Judge(head, packet, out) => [&[b'J', length(out)], &head[..], &packet].concat(),
             Case::Carry(head, j, out) => [&[b'C', length(out)], &head[..], &j].concat(),
@@ -122,7 +115,9 @@ fn single(bytes: Vec<u8>, out: usize) -> Stream {
 
 /// A list that a head takes, reads of it, a transfer in three parts, and packets that it refuses.
 fn conversation() -> Vec<u8> {
-    let mut bytes = generate::listed(List::Standard, &Settings::FACTORY);
+    let mut list = [0; 128];
+    let length = model::standard_list(&Settings::FACTORY, &mut list).expect("factory values");
+    let mut bytes = list[..length].to_vec();
     for command in Command::ALL {
         bytes.extend(generate::packet(4, command.bytes(), 0, &[]));
     }
@@ -150,13 +145,12 @@ fn full_hold() -> Judgement {
 }
 
 /// A case of each kind whose last byte matters, for call.c's own fault.
-fn fixed() -> [Case; 7] {
+fn fixed() -> [Case; 6] {
     let fresh = || controller(&Controller::default(), &Wide::default());
     [
         Case::Stream(single(generate::packet(2, [1, 3], 0, &[5]), 64)),
         Case::Encode(Command::Run.bytes(), factory(), 64),
-        Case::List(List::Standard, factory(), 128),
-        Case::List(List::Short, factory(), 128),
+        Case::List(factory(), 128),
         Case::Report(include_bytes!("../../examples/accepted.report").to_vec()),
         Case::Judge(fresh(), generate::packet(2, [1, 3], 0, &[5]), 64),
         Case::Carry(fresh(), judgement(&full_hold()), 64),
@@ -177,7 +171,7 @@ fn misvalued() -> Vec<u8> {
 }
 
 /// Every way to cut a stream in equal parts, every length of an output, every byte of every command's
-/// data, the values that are not allowed, and the lists of settings with each set of commands changed.
+/// data, and the values that are not allowed.
 fn swept() -> Vec<Case> {
     let mut cases = Vec::new();
     let bytes = conversation();
@@ -188,14 +182,8 @@ fn swept() -> Vec<Case> {
     }
     for out in 0..=LONGEST {
         cases.push(Case::Stream(single(bytes.clone(), out)));
+        cases.push(Case::List(factory(), out));
         cases.extend(Command::ALL.map(|command| Case::Encode(command.bytes(), factory(), out)));
-    }
-    for out in 0..=LONGEST_LIST {
-        cases.extend(List::ALL.map(|list| Case::List(list, factory(), out)));
-    }
-    for changed in generate::every_change() {
-        let bytes = settings(&changed, &Wide::default());
-        cases.extend(List::ALL.map(|list| Case::List(list, bytes.clone(), 128)));
     }
     cases.push(Case::Stream(single(misvalued(), 64)));
     for (command, data) in generate::every_value() {
@@ -269,11 +257,9 @@ fn stream(rng: &mut Rng) -> (Stream, usize) {
 }
 
 fn emit(rng: &mut Rng) -> Case {
-    let (from, wide) = match rng.below(10) {
-        0..=2 => (generate::settings_in_rule(rng), Wide::default()),
-        3 | 4 => (generate::few_changed(rng), Wide::default()),
-        5 => (generate::many_changed(rng), Wide::default()),
-        6 => (
+    let (from, wide) = match rng.below(8) {
+        0..=3 => (generate::settings_in_rule(rng), Wide::default()),
+        4 => (
             generate::settings_in_rule(rng),
             generate::wide_settings(rng),
         ),
@@ -284,9 +270,8 @@ fn emit(rng: &mut Rng) -> Case {
         damage(rng, &mut bytes);
     }
     let any = rng.below(1 + LONGEST);
-    if rng.one_in(2) {
-        let out = rng.pick(&[any, 127, 128, 128, 128, 129, LONGEST_LIST]);
-        return Case::List(rng.pick(&List::ALL), bytes, out);
+    if rng.one_in(3) {
+        return Case::List(bytes, rng.pick(&[any, 127, 128, 128, 128, 129]));
     }
     let cmd = if rng.one_in(8) {
         [rng.below(6) as u8, rng.below(9) as u8]

@@ -33,7 +33,6 @@ static struct {
 } numbers;
 
 static uint8_t out[64];
-static uint8_t long_out[200];
 static uint8_t packet[70000];
 static uint8_t report[70000];
 
@@ -127,13 +126,9 @@ static answer encode(uint8_t cmd1, uint8_t cmd2, const settings *s, uint8_t *out
     return filled(imjarlet_encode(cmd1, cmd2, s, output, m, &numbers.size));
 }
 
-/* The standard list or the short one, to the first m bytes of `long_out`. */
-typedef uint32_t list_call(const settings *, uint8_t *, imjarlet_size, imjarlet_size *);
-
-static answer list(list_call *call, const settings *s, imjarlet_size m) {
+static answer standard_list(const settings *s, uint8_t *output, imjarlet_size m) {
     memset(&numbers, BEFORE, sizeof numbers);
-    memset(long_out, 0xA5, sizeof long_out);
-    return filled(call(s, long_out, m, &numbers.size));
+    return filled(imjarlet_standard_list(s, output, m, &numbers.size));
 }
 
 /* Judging the packet in `packet`: the controller stays, and with a refusal the judgement too. */
@@ -187,22 +182,10 @@ static int refuses(answer a, uint32_t refusal) {
     return a.refusal == refusal && a.taken == 0 && a.size == 0 && a.wrong == IMJARLET_NO_WRONG_BYTE;
 }
 
-/* The encoder and the lists have one number. */
+/* The encoder and the list have one number. */
 static int emits(answer a, uint32_t refusal, imjarlet_size n) {
     return a.refusal == refusal && a.size == n && all(&a.taken, BEFORE, sizeof a.taken) &&
            all(&a.wrong, BEFORE, sizeof a.wrong);
-}
-
-/* The list, to the shortest output, has these bytes; what is behind them is untouched. */
-static int lists(list_call *call, const settings *s, const uint8_t *bytes, size_t n) {
-    return emits(list(call, s, IMJARLET_LIST_OUTPUT_LEAST), IMJARLET_NO_REFUSAL, n) &&
-           memcmp(long_out, bytes, n) == 0 && all(long_out + n, 0xA5, sizeof long_out - n);
-}
-
-/* Both lists are refused, and the output is untouched. */
-static int lists_refuse(const settings *s, imjarlet_size m, uint32_t refusal) {
-    return emits(list(imjarlet_standard_list, s, m), refusal, 0) && all(long_out, 0xA5, sizeof long_out) &&
-           emits(list(imjarlet_short_list, s, m), refusal, 0) && all(long_out, 0xA5, sizeof long_out);
 }
 
 /* Puts a packet in `packet` and answers its length. */
@@ -257,9 +240,6 @@ static const struct {
     {0x04, 0x02, 1, {1}},
 };
 
-/* 01 04: red 300, green and blue the factory's. */
-static const uint8_t red[13] = {2, 1, 4, 0, 6, 0, 0x2C, 1, 0x12, 1, 0x12, 1, 0x60};
-
 static void set(settings *s, int k) {
     switch (k) {
     case 0: s->mode = 4; break;
@@ -307,23 +287,11 @@ static void set(settings *s, int k) {
     }
 }
 
-/* A fresh head takes all of these packets, and has these settings then. */
-static int plays(const uint8_t *bytes, size_t n, const settings *ends) {
-    answer a;
-    size_t i;
-    reset();
-    for (i = 0; i < n; i += a.taken) {
-        a = receive(bytes + i, n - i, out, sizeof out);
-        if (a.size == 0 || out[0] != IMJARLET_WRITE_RESPONSE) return 0;
-    }
-    return same_settings(&box.c.settings, ends);
-}
-
 static void every_setting(void) {
     settings expected = factory();
     answer a;
-    uint8_t joined[200];
-    size_t at = 0;
+    uint8_t list[200], joined[200];
+    size_t at = 0, i;
     int k;
     reset();
     for (k = 0; k < 9; k++) {
@@ -341,7 +309,6 @@ static void every_setting(void) {
               "the encoder finds the values in the fields");
         memcpy(joined + at, packet, 7 + n);
         at += 7 + n;
-        check(lists(imjarlet_short_list, &expected, joined, at), "the short list is the writes so far");
         if (k == 3) {
             check(draws(IMJARLET_CODE_COMMAND, IMJARLET_HOST_READ, c1, c2, IMJARLET_WHOLE, NULL, 0), "01 06 is not read");
             continue;
@@ -350,32 +317,17 @@ static void every_setting(void) {
         check(answers(a, 7, 7 + n) && out[0] == IMJARLET_READ_RESPONSE && memcmp(out + 6, writes[k].data, n) == 0,
               "a read finds the values in the fields");
     }
-    check(at == IMJARLET_LIST_LENGTH && lists(imjarlet_standard_list, &expected, joined, at),
+    memset(list, 0xA5, sizeof list);
+    a = standard_list(&expected, list, sizeof list);
+    check(emits(a, IMJARLET_NO_REFUSAL, IMJARLET_LIST_LENGTH) && at == IMJARLET_LIST_LENGTH &&
+              memcmp(list, joined, at) == 0 && list[at] == 0xA5,
           "the standard list is the nine writes");
-    check(plays(joined, at, &expected), "the standard list plays back");
-}
-
-/* The short list: what is the factory's is not written. */
-static void short_lists(void) {
-    static const uint8_t mode_and_run[16] = {2, 1, 1, 0, 1, 0, 4, 9, 2, 4, 2, 0, 1, 0, 1, 10};
-    settings s = factory();
-    size_t n;
-    int k;
-    check(lists(imjarlet_short_list, &s, packet, 0), "the short list of the factory values is empty");
-    s.current.red.counts = 300;
-    check(lists(imjarlet_short_list, &s, red, 13) && plays(red, 13, &s), "red 300 is one write");
-    /* each command alone; run 1 needs display mode 4 */
-    for (k = 0; k < 8; k++) {
-        s = factory();
-        set(&s, k);
-        n = make(IMJARLET_HOST_WRITE, writes[k].cmd1, writes[k].cmd2, IMJARLET_WHOLE, writes[k].data, writes[k].size);
-        check(lists(imjarlet_short_list, &s, packet, n) && plays(packet, n, &s), "one command is one write");
+    reset();
+    for (i = 0; i < at; i += a.taken) {
+        a = receive(list + i, at - i, out, sizeof out);
+        if (a.size == 0) break;
     }
-    s = factory();
-    s.mode = 4;
-    s.run = 1;
-    check(lists(imjarlet_short_list, &s, mode_and_run, 16) && plays(mode_and_run, 16, &s),
-          "display mode 4 is written before run 1");
+    check(i == at && same_settings(&box.c.settings, &expected), "the standard list plays back");
 }
 
 /* A value that the field may not have draws refusal 3, and the controller stays. */
@@ -399,7 +351,7 @@ static void short_lists(void) {
             OUT_OF_RULE(settings.field, (allowed) | 1u << bit);                                    \
             wide.field = (allowed) | 1u << bit;                                                    \
             check(emits(encode(cmd1, cmd2, &wide, out, sizeof out), IMJARLET_NOT_ALLOWED, 0) &&    \
-                      lists_refuse(&wide, sizeof long_out, IMJARLET_OUT_OF_RULE),                  \
+                      emits(standard_list(&wide, packet, sizeof packet), IMJARLET_OUT_OF_RULE, 0), \
                   #field " over 255");                                                             \
         }                                                                                          \
     } while (0)
@@ -435,7 +387,7 @@ static void out_of_rule(void) {
     WIDE(sequence.led, 0, 32, 0x04, 0x00);
     WIDE(run, 0, 32, 0x04, 0x02);
     s.mode = 3;
-    check(lists_refuse(&s, sizeof long_out, IMJARLET_OUT_OF_RULE), "the lists of settings out of rule");
+    check(emits(standard_list(&s, packet, sizeof packet), IMJARLET_OUT_OF_RULE, 0), "a list of settings out of rule");
     check(emits(encode(0x01, 0x01, &s, out, sizeof out), IMJARLET_NOT_ALLOWED, 0),
           "the encoder of a value that is not allowed");
     check(emits(encode(0x01, 0x03, &s, out, sizeof out), IMJARLET_NO_REFUSAL, 8),
@@ -542,6 +494,7 @@ static void longest(void) {
 }
 
 static void codes_and_lengths(void) {
+    static uint8_t long_out[IMJARLET_LIST_OUTPUT_LEAST];
     settings s = factory();
     reset();
     check(draws(IMJARLET_CODE_COMMAND, IMJARLET_HOST_WRITE, 0x09, 0x09, IMJARLET_WHOLE, NULL, 0), "code 02");
@@ -561,10 +514,13 @@ static void codes_and_lengths(void) {
     check(emits(encode(1, 1, &s, out, IMJARLET_OUTPUT_LEAST - 1), IMJARLET_SHORT_OUTPUT, 0), "encode: 63 bytes");
     check(emits(encode(1, 2, &s, out, IMJARLET_OUTPUT_LEAST - 1), IMJARLET_SHORT_OUTPUT, 0), "encode: 1 before 2");
     check(emits(encode(1, 1, &s, out, IMJARLET_OUTPUT_LEAST), IMJARLET_NO_REFUSAL, 8), "encode: 64 bytes");
-    check(lists_refuse(&s, IMJARLET_LIST_OUTPUT_LEAST - 1, IMJARLET_SHORT_OUTPUT), "the lists: 127 bytes");
+    check(emits(standard_list(&s, long_out, IMJARLET_LIST_OUTPUT_LEAST - 1), IMJARLET_SHORT_OUTPUT, 0),
+          "list: 127 bytes");
+    check(emits(standard_list(&s, long_out, IMJARLET_LIST_OUTPUT_LEAST), IMJARLET_NO_REFUSAL, IMJARLET_LIST_LENGTH),
+          "list: 128 bytes");
     s.run = 1;
-    check(lists_refuse(&s, IMJARLET_LIST_OUTPUT_LEAST - 1, IMJARLET_SHORT_OUTPUT), "the lists: 1 before 3");
-    check(lists_refuse(&s, IMJARLET_LIST_OUTPUT_LEAST, IMJARLET_OUT_OF_RULE), "the lists: 3");
+    check(emits(standard_list(&s, long_out, IMJARLET_LIST_OUTPUT_LEAST - 1), IMJARLET_SHORT_OUTPUT, 0),
+          "list: 1 before 3");
 }
 
 /* Data that are not allowed, and the byte that names the field: the first of the first one, in layout order. */
@@ -896,6 +852,7 @@ static int refused(size_t length, uint32_t number, size_t place) {
 }
 
 static void reports(void) {
+    static const uint8_t red[13] = {2, 1, 4, 0, 6, 0, 0x2C, 1, 0x12, 1, 0x12, 1, 0x60};
     static const uint8_t begun[7] = {2, 1, 3, 1, 0, 0, 7}; /* opens a transfer of 01 03 */
     uint8_t ship[33];
     settings ends = factory();
@@ -948,7 +905,6 @@ int main(void) {
     printf("judged_no_wrong_byte %u\n", (unsigned)IMJARLET_JUDGED_NO_WRONG_BYTE);
     fresh();
     every_setting();
-    short_lists();
     out_of_rule();
     stored();
     read_where_written();

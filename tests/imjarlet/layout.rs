@@ -182,38 +182,6 @@ fn asked_first() {
     assert_eq!(head.judge(&[]), Err(Refusal::OutOfRule));
 }
 
-/// Sends packets to a head, each of which must be acknowledged: the settings then.
-fn play(head: &mut Controller, packets: &[u8]) -> Settings {
-    let mut out = [0xA5u8; OUTPUT_LEAST];
-    let mut at = 0;
-    while at < packets.len() {
-        match head.receive(&packets[at..], &mut out).unwrap() {
-            Answer::Answered { taken, length: 7, wrong: None } => at += taken,
-            other => panic!("{other:?}"),
-        }
-    }
-    head.settings
-}
-
-/// The short list: nothing of the factory's is written, and a command that differs is one write.
-fn short_lists() {
-    const RED_300: [u8; 13] = [2, 1, 4, 0, 6, 0, 0x2C, 1, 0x12, 1, 0x12, 1, 0x60];
-    let mut list = [0xA5u8; LIST_OUTPUT_LEAST];
-    assert_eq!(short_list(&FACTORY, &mut list), Ok(0));
-    assert_eq!(list, [0xA5; LIST_OUTPUT_LEAST]);
-    let mut settings = FACTORY;
-    settings.current.red = Drive(300);
-    assert_eq!(short_list(&settings, &mut list), Ok(13));
-    assert_eq!((&list[..13], &list[13..]), (&RED_300[..], &[0xA5; LIST_OUTPUT_LEAST - 13][..]));
-    assert_eq!(play(&mut Controller::fresh(), &list[..13]), settings);
-    // run 1 needs display mode 4, which is written before it
-    settings.mode = 4;
-    settings.run = 1;
-    assert_eq!(short_list(&settings, &mut list), Ok(8 + 13 + 8));
-    assert_eq!((&list[..7], &list[21..28]), (&[2, 1, 1, 0, 1, 0, 4][..], &[2, 4, 2, 0, 1, 0, 1][..]));
-    assert_eq!(play(&mut Controller::fresh(), &list[..29]), settings);
-}
-
 fn main() {
     print_layout();
     println!("no_wrong_byte {}", raw::NO_WRONG_BYTE);
@@ -229,7 +197,14 @@ fn main() {
     // the standard list, played packet by packet and byte by byte
     let mut list = [0u8; LIST_OUTPUT_LEAST];
     assert_eq!(standard_list(&settings, &mut list), Ok(LIST_LENGTH));
-    assert_eq!(play(&mut head, &list[..LIST_LENGTH]), settings);
+    let mut at = 0;
+    while at < LIST_LENGTH {
+        match head.receive(&list[at..LIST_LENGTH], &mut out).unwrap() {
+            Answer::Answered { taken, length: 7, wrong: None } => at += taken,
+            other => panic!("{other:?}"),
+        }
+    }
+    assert_eq!(head.settings, settings);
     head.reset();
     assert_eq!(head, fresh);
     for (i, byte) in list[..8].iter().enumerate() {
@@ -240,7 +215,6 @@ fn main() {
     assert_eq!(head.receive(&[], &mut out), Ok(Answer::Waiting { taken: 0 }));
     wrong_bytes(&mut head);
     asked_first();
-    short_lists();
 
     // every refusal
     assert_eq!(head.receive(&list, &mut out[..OUTPUT_LEAST - 1]), Err(Refusal::ShortOutput));
@@ -252,10 +226,8 @@ fn main() {
     settings.run = 256;
     assert_eq!(encode(0x04, 0x02, &settings, &mut out), Err(Refusal::NotAllowed));
     assert_eq!(encode(0x01, 0x04, &settings, &mut out), Err(Refusal::NotAllowed));
-    for list_of in [standard_list, short_list] {
-        assert_eq!(list_of(&settings, &mut list), Err(Refusal::OutOfRule));
-        assert_eq!(list_of(&settings, &mut list[1..]), Err(Refusal::ShortOutput));
-    }
+    assert_eq!(standard_list(&settings, &mut list), Err(Refusal::OutOfRule));
+    assert_eq!(standard_list(&settings, &mut list[1..]), Err(Refusal::ShortOutput));
     assert_eq!(check_report(&[]), Err(Refused { reason: Reason::CutShort, place: 0 }));
     assert_eq!(check_report(&[0; REPORT_MOST + 1]), Err(Refused { reason: Reason::TooLong, place: 0 }));
     let accepted = check_report(include_bytes!("../../examples/accepted.report")).unwrap();

@@ -46,7 +46,7 @@ use Rattle.command.proofs.faults.Laws.{two_true, firstGroup, no-fault}
 use Rattle.command.proofs.judgement.Laws.{judge_cases}
 use Rattle.command.proofs.judgement.Called.{IsError, exactly-called}
 use Rattle.command.proofs.endpoint.Boundary.{follows_played}
-use Rattle.command.proofs.Refusals.{settings_out, receive_refuses, encode-refuses, list-refuses, short-refuses}
+use Rattle.command.proofs.Refusals.{settings_out, receive_refuses, encode-refuses, list-refuses}
 
 -- The bytes of the response.
 
@@ -358,5 +358,4 @@ demand1 =
       play = not_played;
       encode = λ v out. encode-refuses out v;
       list = λ s out. list-refuses out s;
-      short = λ s out. short-refuses out s;
     }

@@ -79,7 +79,7 @@ is_packet p e =
 
 -- A head with no transfer open.
 
-pub state_closed : (c : Controller) → Idle c → state_of c ≡ from c.settings
+state_closed : (c : Controller) → Idle c → state_of c ≡ from c.settings
 state_closed c i = rw i.closed
 
 none_active : (t : TransferState) (buffer : List ℕ) → transfer_in_rule t ≡ true → transfer_in t buffer ≡ Closed → t.active ≡ 0
@@ -90,7 +90,7 @@ none_active t buffer r e =
     let z : ◌≡◌ {A = ℕ} 0 1 = cc in absurd (omega arith))
 
 -- what a run leaves with no packet half sent and no transfer open
-pub left_idle : {c : Controller} {b : List ℕ} {r : Served Controller (List ℕ)} {s : Settings} → Follows c b r → rest b ≡ [] → after (state_of c) (packets b) ≡ from s → Idle r.state
+left_idle : {c : Controller} {b : List ℕ} {r : Served Controller (List ℕ)} {s : Settings} → Follows c b r → rest b ≡ [] → after (state_of c) (packets b) ≡ from s → Idle r.state
 left_idle {c} {b} {r} f e g =
     record {
       boundary = record {
@@ -311,7 +311,7 @@ remakes c p m s q b o z e t =
     writable a p v w = subst (Sound a.settings.mode) w (unfold judged in sound a.settings.mode a.transfer (arrived p))
 
 -- A fresh head.
-pub fresh_idle : Idle fresh
+fresh_idle : Idle fresh
 unfolding transfer_in_rule packet_in_rule zeros
 fresh_idle =
     record {

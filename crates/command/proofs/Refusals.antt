@@ -1,43 +1,47 @@
 -- When the calls refuse: the tests are the lines of document 01's table, and a refusal touches nothing lent.
 use Prim.Native.Nat.{ℕ, ◌+◌}
 use mathlib.Core.Path.{◌≡◌, refl, ap, sym, ◌∙◌}
-use mathlib.Core.Logic.{◌↔◌}
-use mathlib.Core.Bool.{false, cond, not, ◌&&◌, ◌||◌, and-false}
-use mathlib.Core.List.{List}
+use mathlib.Core.Logic.{◌↔◌, inl, inr}
+use mathlib.Core.Bool.{Bool, true, false, cond, not, ◌&&◌, ◌||◌, and-false}
+use mathlib.Core.List.{List, [], ◌∷◌}
 use native.Mathlib.Omega.{arith}
 use lib.Dec.{eqb, ltb, leb}
 use lib.ListN.{length}
-use borrow.Author.Tests.{le-ltb, lt-leb, leb-false, ltb-false, ne_eqb, eqb-true, eqb-false, not-true, not_false}
+use borrow.Author.Tests.{le-ltb, lt-leb, leb-false, ltb-true, ltb-false, ne_eqb, eqb-true, eqb-false, not-true, not_false}
 use Rattle.packet.specs.Packet.{payload_length}
 use Rattle.packet.specs.Answer.{Refuses, Waits, Answers, Answering}
 use Rattle.packet.specs.Receiver.{packet_in_rule}
 use Rattle.packet.proofs.Answering.{answering, refusal_number, answers_not_refused, waits_not_refused, all_taken}
 use Rattle.packet.proofs.Cases.{bool_cases, cond_cases, and_left, and_right, or_left, or_right, and_cases, never}
-use Rattle.command.specs.Table.{table, every, command_of, is_known}
+use Rattle.command.specs.Table.{table, command_of, is_known}
 use Rattle.command.specs.Settings.{values_of}
-use Rattle.command.specs.Rules.{allowed, blocked, settings_in_rule}
+use Rattle.command.specs.Rules.{allowed, blocked, all_allowed, settings_in_rule}
 use Rattle.command.specs.Value.{command_in, values_in}
 use Rattle.command.specs.Controller.{transfer_of, receiver_in, transfer_in_rule, parts_in_rule, in_rule}
 use Rattle.command.specs.Endpoint.{taken_by, response_in, After, refused, waiting, answered, receive_call}
-use Rattle.command.specs.Encoder.{encoded, standard_list, short_list, encode_call, shipping_call, list_call, short_call}
+use Rattle.command.specs.Encoder.{encoded, standard_list, encode_call, list_call}
 use Rattle.command.specs.Encoder as encoder
 use Rattle.command.specs.Demand1.{SettingsOutOfRule, SettingNotAllowed, RunsOutsideMode, OutOfRule, BadSettings, HeldTooLong, OpenForUnknown, HasAllBytes}
+use Rattle.command.specs.declared.table.Command.{Command}
 use Rattle.command.specs.declared.settings.Settings.{Settings}
 use Rattle.command.specs.declared.value.Value.{Value}
 use Rattle.command.specs.declared.controller.Controller.{Controller}
-use Rattle.command.proofs.table.Laws.{every_false}
 use Rattle.command.proofs.rules.Laws.{kept_by}
 use Rattle.command.proofs.faults.Laws.{named, unnamed}
 
 -- The tests of refusal 3 are document 01's line.
+one_not_allowed : (s : Settings) (cs : List Command) → all_allowed s cs ≡ false → SettingsOutOfRule s
+unfolding all_allowed
+one_not_allowed s [] h = never (sym h)
+one_not_allowed s (c ∷ cs) h = and_cases (allowed c (values_of c s)) (all_allowed s cs) (SettingNotAllowed c) (one_not_allowed s cs) h
+
 pub settings_out : (s : Settings) → (settings_in_rule s ≡ false) ↔ SettingsOutOfRule s
 settings_out s = (forth, back)
   where
     forth : settings_in_rule s ≡ false → SettingsOutOfRule s
     forth h =
         unfold settings_in_rule blocked in
-        and_cases (every (λ c. allowed c (values_of c s)) table) (not (eqb s.run 1 && not (eqb s.mode 4)))
-        (λ n. every_false (λ c. allowed c (values_of c s)) table n SettingNotAllowed)
+        and_cases (all_allowed s table) (not (eqb s.run 1 && not (eqb s.mode 4))) (one_not_allowed s table)
         (λ n.
         let r = not_false _ n in
         RunsOutsideMode (eqb-true s.run 1 (and_left _ _ r)) (eqb-false s.mode 4 (not-true _ (and_right (eqb s.run 1) _ r))))
@@ -94,7 +98,7 @@ receive_refuses c input out =
     (λ h. omega arith) (refl, refl) (refl, refl)
     (bool_cases t.complete (λ e. rw e) (λ e. rw (e, all_taken 0 (receiver_in c) input e))) (in_rule c) (controller_out c)
 
--- The encoder and the lists.
+-- The encoder and the list.
 module _ (out : List ℕ) where
   number : (k n : ℕ) → (encoder.Refuses k ≡ encoder.Refuses n) ↔ (n ≡ k)
   number k n = (λ h. cc, λ h. rw h)
@@ -113,23 +117,12 @@ module _ (out : List ℕ) where
       (encoder.writes (encoded v) out) out 64 2 (number 1) (number 2) (writing (encoded v)) (λ h. omega arith) refl refl refl
       (allowed (command_in v) (values_in v)) (λ h. h, λ h. h)
 
-  shipping-refuses : (list : Settings → List ℕ) (s : Settings)
-      → let r = shipping_call list s out in
-      Answering (λ n. r.answer ≡ encoder.Refuses n) out 128 3 (SettingsOutOfRule s) (r.output ≡ out) (r.answer ≡ encoder.Writes (length (list s)))
-  shipping-refuses list s =
-      answering (λ (x : encoder.After) n. x.answer ≡ encoder.Refuses n) (λ x. x.output ≡ out) (λ x. x.answer ≡ encoder.Writes (length (list s)))
-      (encoder.refused 1 out) (encoder.refused 3 out)
-      (encoder.writes (list s) out) out 128 3 (number 1) (number 3) (writing (list s)) (λ h. omega arith) refl refl refl
-      (settings_in_rule s) (settings_out s)
-
   pub list-refuses : (s : Settings)
       → let r = list_call s out in
       Answering (λ n. r.answer ≡ encoder.Refuses n) out 128 3 (SettingsOutOfRule s) (r.output ≡ out) (r.answer ≡ encoder.Writes (length (standard_list s)))
   unfolding list_call
-  list-refuses s = shipping-refuses standard_list s
-
-  pub short-refuses : (s : Settings)
-      → let r = short_call s out in
-      Answering (λ n. r.answer ≡ encoder.Refuses n) out 128 3 (SettingsOutOfRule s) (r.output ≡ out) (r.answer ≡ encoder.Writes (length (short_list s)))
-  unfolding short_call
-  short-refuses s = shipping-refuses short_list s
+  list-refuses s =
+      answering (λ (x : encoder.After) n. x.answer ≡ encoder.Refuses n) (λ x. x.output ≡ out) (λ x. x.answer ≡ encoder.Writes (length (standard_list s)))
+      (encoder.refused 1 out) (encoder.refused 3 out)
+      (encoder.writes (standard_list s) out) out 128 3 (number 1) (number 3) (writing (standard_list s)) (λ h. omega arith) refl refl refl
+      (settings_in_rule s) (settings_out s)

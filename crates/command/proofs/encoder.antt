@@ -1,4 +1,3 @@
 -- The laws of encoder.
 pub mod Laws
 pub mod Lists
-pub mod Shortest

@@ -19,7 +19,7 @@ use Rattle.command.specs.Response.{response}
 use Rattle.command.specs.Player.{State, from, judged, next, judgements, end_settings, end_offence}
 use Rattle.command.specs.Controller.{state_of}
 use Rattle.command.specs.Endpoint.{taken_by, arrived_in, response_in, receive_call}
-use Rattle.command.specs.Encoder.{encoded, standard_list, short_list, encode_call, list_call, short_call}
+use Rattle.command.specs.Encoder.{encoded, standard_list, encode_call, list_call}
 use Rattle.command.specs.Encoder as encoder
 use Rattle.command.specs.Sending.{Sending, sent_to, Boundary}
 use Rattle.command.specs.declared.table.Command.{Command}
@@ -226,10 +226,7 @@ pub record Demand1 : Type 0 where
       → let r = encode_call v out in
       Answering (λ n. r.answer ≡ encoder.Refuses n) out 64 2 (allowed (command_in v) (values_in v) ≡ false) (r.output ≡ out)
       (r.answer ≡ encoder.Writes (length (encoded v)))
-  -- the shipping lists, the standard one and the short one: 1 and 3; else its length
+  -- the standard list: 1 and 3; else its length
   pub list : (s : Settings) (out : List ℕ)
       → let r = list_call s out in
       Answering (λ n. r.answer ≡ encoder.Refuses n) out 128 3 (SettingsOutOfRule s) (r.output ≡ out) (r.answer ≡ encoder.Writes (length (standard_list s)))
-  pub short : (s : Settings) (out : List ℕ)
-      → let r = short_call s out in
-      Answering (λ n. r.answer ≡ encoder.Refuses n) out 128 3 (SettingsOutOfRule s) (r.output ≡ out) (r.answer ≡ encoder.Writes (length (short_list s)))

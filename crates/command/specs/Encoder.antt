@@ -1,9 +1,8 @@
--- The encoder and the shipping lists.
-use Rattle.std.specs.Prelude.{ℕ, Bool, cond, not, List, [], ◌∷◌, ◌++◌, eqb, ltb, length}
+-- The encoder and the standard shipping list.
+use Rattle.std.specs.Prelude.{ℕ, cond, List, [], ◌∷◌, ◌++◌, eqb, ltb, length}
 use Rattle.packet.specs.Packet.{packet_of, host_write, whole}
 use Rattle.packet.specs.Writer.{written}
 use Rattle.command.specs.Table.{table, cmd1_for, cmd2_for}
-use Rattle.command.specs.Settings.{same_values, factory}
 use Rattle.command.specs.Rules.{allowed, settings_in_rule}
 use Rattle.command.specs.Value.{data_of, command_in, values_in, data_in}
 use Rattle.command.specs.declared.table.Command.{Command}
@@ -12,7 +11,7 @@ use Rattle.command.specs.declared.value.Value.{Value}
 use Rattle.command.specs.declared.encoder.Encoded.{Encoded}
 use Rattle.command.specs.declared.encoder.Encoded.TheVariants.{Length, ShortOutput, NotAllowed, OutOfRule}
 
--- What the calls answer, in the numbers of document 01: a refusal's number, or the length written at the output's start.
+-- What the two calls answer, in the numbers of document 01: a refusal's number, or the length written at the output's start.
 pub data Outcome : Type 0 where
   Refuses : ℕ → Outcome
   Writes : ℕ → Outcome
@@ -54,21 +53,7 @@ list_of (c ∷ cs) s = write_packet c (data_of c s) ++ list_of cs s
 unfoldable pub standard_list : Settings → List ℕ
 standard_list s = list_of table s
 
--- Short shipping list: it "writes only the commands whose values differ from the factory's, in table order" (request 6).
-
--- those of the commands that pass a test, in their order
-unfoldable pub those : (Command → Bool) → List Command → List Command
-those test [] = []
-those test (c ∷ cs) = cond (test c) (c ∷ those test cs) (those test cs)
-
--- the values of a command differ from those that f has
-abbrev pub differs : Settings → Settings → Command → Bool
-differs f s c = not (same_values s f c)
-
-unfoldable pub short_list : Settings → List ℕ
-short_list s = list_of (those (differs factory s) table) s
-
--- Each call: the answer and the output.
+-- Both calls: the answer and the output.
 pub record After : Type 0 where
   pub answer : Outcome
   pub output : List ℕ
@@ -85,12 +70,6 @@ unfoldable pub encode_call : Value → List ℕ → After
 encode_call v out =
     cond (ltb (length out) 64) (refused 1 out) (cond (allowed (command_in v) (values_in v)) (writes (encoded v) out) (refused 2 out))
 
--- a shipping list: tested in the order 1, 3
-abbrev pub shipping_call : (Settings → List ℕ) → Settings → List ℕ → After
-shipping_call list s out = cond (ltb (length out) 128) (refused 1 out) (cond (settings_in_rule s) (writes (list s) out) (refused 3 out))
-
+-- the standard list: tested in the order 1, 3
 unfoldable pub list_call : Settings → List ℕ → After
-list_call s out = shipping_call standard_list s out
-
-unfoldable pub short_call : Settings → List ℕ → After
-short_call s out = shipping_call short_list s out
+list_call s out = cond (ltb (length out) 128) (refused 1 out) (cond (settings_in_rule s) (writes (standard_list s) out) (refused 3 out))

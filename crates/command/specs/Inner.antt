@@ -15,8 +15,7 @@ use Rattle.command.specs.Response.{response_to}
 use Rattle.command.specs.Controller.{transfer_of, held_in, transfer_in, receiver_in, transfer_in_rule, transfer_state_after, buffer_after}
 use Rattle.command.specs.Ruling.{acceptance, holds, writes, reads, no_wrong, transfer_of_kept}
 use Rattle.command.specs.Endpoint.{After, answered}
-use Rattle.command.specs.Settings.{factory}
-use Rattle.command.specs.Encoder.{Writes, list_of, those, differs}
+use Rattle.command.specs.Encoder.{Writes}
 use Rattle.command.specs.Asking.{outcome_of}
 use Rattle.command.specs.declared.table.Command.{Command}
 use Rattle.command.specs.declared.table.Command.TheVariants.{DisplayMode, SequenceRun}
@@ -29,8 +28,6 @@ use Rattle.command.specs.declared.value.Parsed.{Parsed}
 use Rattle.command.specs.declared.value.Parsed.TheVariants.{Values, WrongSize}
 use Rattle.command.specs.declared.data.Data.{Data}
 use Rattle.command.specs.declared.settings.Settings.{Settings}
-use Rattle.command.specs.declared.encoder.ShippingList.{ShippingList}
-use Rattle.command.specs.declared.encoder.ShippingList.TheVariants.{Standard, Short}
 use Rattle.command.specs.declared.transfer.TransferState.{TransferState}
 use Rattle.command.specs.declared.controller.Controller.{Controller}
 use Rattle.command.specs.declared.controller.Registers.{Registers}
@@ -45,17 +42,6 @@ use Rattle.command.specs.declared.carrying.Meant.TheVariants.{By}
 -- the command in line k of the table, from 0; past the end, the last: the contract of Command::at; put_list goes through `table` by it
 abbrev pub command_at : ℕ → Command
 command_at k = get_or table k SequenceRun
-
--- The shipping lists by the names that the code has for them.
-
--- this list of the settings s writes the command: every one, or those that `short_list` is of
-abbrev pub is_listed : ShippingList → Settings → Command → Bool
-is_listed Standard s c = true
-is_listed Short s c = differs factory s c
-
--- the bytes of the list: standard_list and short_list, by computing (the proofs of standard_list and short_list)
-abbrev pub list_by : ShippingList → Settings → List ℕ
-list_by l s = list_of (those (is_listed l s) table) s
 
 -- no byte is wrong: `allowed`, where it is wrong_byte (law nothing_wrong of rules/Laws)
 abbrev pub is_nothing : WrongByte → Bool

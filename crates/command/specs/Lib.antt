@@ -1,9 +1,9 @@
 -- The definitions of command, in the order in which to read them.
 pub mod Table
-pub mod Data
 pub mod Fields
 pub mod Settings
 pub mod Rules
+pub mod Data
 pub mod Value
 pub mod Transfer
 pub mod Faults
@@ -22,7 +22,6 @@ pub mod Demand2
 pub mod Request2
 pub mod Request4
 pub mod Request5
-pub mod Request6
 pub mod Lent
 pub mod Inner
 pub mod Computing

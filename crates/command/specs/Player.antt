@@ -66,17 +66,6 @@ unfoldable pub all_acknowledged : List Judgement → Bool
 all_acknowledged [] = true
 all_acknowledged (j ∷ js) = acknowledged j && all_acknowledged js
 
--- Played from the settings f, the packets of b are each acknowledged, and no packet and no transfer is left half sent.
-pub record WhollyAcknowledged (f : Settings) (b : List ℕ) : Type 0 where
-  pub acknowledged : all_acknowledged (judgements_on f b) ≡ true
-  pub closed : (play f b).transfer ≡ Closed
-  pub finished : half_sent b ≡ []
-
--- and they take a head from f to the settings s
-pub record Takes (f : Settings) (b : List ℕ) (s : Settings) : Type 0 where
-  pub wholly : WhollyAcknowledged f b
-  pub ends : (play f b).settings ≡ s
-
 -- there are no bytes
 abbrev pub is_nil : List ℕ → Bool
 is_nil [] = true

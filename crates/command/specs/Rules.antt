@@ -2,7 +2,7 @@
 -- refusal 3 asks.
 use Rattle.std.specs.Prelude.{ℕ, ◌+◌, ◌/◌, Bool, true, false, cond, not, ◌&&◌, ◌||◌, List, [], ◌∷◌, eqb, leb, get_or}
 use Rattle.std.proofs.Math.Option.{Option, none, some}
-use Rattle.command.specs.Table.{table, every, same}
+use Rattle.command.specs.Table.{table, same}
 use Rattle.command.specs.Fields.{current_from, colour_from, setting_from, input_from, video_from, sequence_from}
 use Rattle.command.specs.Settings.{values_of}
 use Rattle.command.specs.declared.table.Command.{Command}
@@ -166,6 +166,11 @@ byte_of Nothing = none
 unfoldable pub blocked : Command → List ℕ → ℕ → Bool
 blocked c v mode = same c command.SequenceRun && eqb (get_or v 0 0) 1 && not (eqb mode 4)
 
+-- every setting of these commands is allowed
+unfoldable pub all_allowed : Settings → List Command → Bool
+all_allowed s [] = true
+all_allowed s (c ∷ cs) = allowed c (values_of c s) && all_allowed s cs
+
 -- the settings keep the rules: none of "a setting not allowed, run 1 outside mode 4"
 unfoldable pub settings_in_rule : Settings → Bool
-settings_in_rule s = every (λ c. allowed c (values_of c s)) table && not (blocked command.SequenceRun (values_of command.SequenceRun s) s.mode)
+settings_in_rule s = all_allowed s table && not (blocked command.SequenceRun (values_of command.SequenceRun s) s.mode)

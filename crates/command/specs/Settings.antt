@@ -1,9 +1,7 @@
--- The settings, the values of every command in the table: when two are equal, the column "factory", and what a write stores (document 01, "Playing bytes from given
--- settings").
-use Rattle.std.specs.Prelude.{ℕ, Bool, cond, not, ◌&&◌, List, [], ◌∷◌, eqb, get_or}
-use Rattle.command.specs.Data.{same_list}
+-- The settings, the values of every command in the table: the column "factory", and what a write stores (document 01, "Playing bytes from given settings").
+use Rattle.std.specs.Prelude.{ℕ, cond, not, ◌&&◌, List, [], ◌∷◌, eqb, get_or}
 use Rattle.command.specs.Fields.{current_values, current_from, colour_values, colour_from, setting_values, setting_from, input_values, input_from, video_values, video_from, sequence_values, sequence_from}
-use Rattle.command.specs.Table.{table, every, same}
+use Rattle.command.specs.Table.{same}
 use Rattle.command.specs.declared.table.Command.{Command}
 use Rattle.command.specs.declared.table.Command.TheVariants.{DisplayMode, TestPattern, LedCurrent, StaticColour, DisplaySetting, VideoInput, VideoMode, PatternSequence, SequenceRun}
 use Rattle.command.specs.declared.settings.Settings.{Settings}
@@ -19,14 +17,6 @@ values_of VideoInput s = input_values s.input
 values_of VideoMode s = video_values s.video
 values_of PatternSequence s = sequence_values s.sequence
 values_of SequenceRun s = s.run ∷ []
-
--- both settings have the same values of a command
-abbrev pub same_values : Settings → Settings → Command → Bool
-same_values a b c = same_list (values_of c a) (values_of c b)
-
--- the settings have the same values of every command in the table
-unfoldable pub same_settings : Settings → Settings → Bool
-same_settings a b = every (same_values a b) table
 
 -- the settings that have these values
 abbrev pub settings_of : (Command → List ℕ) → Settings

@@ -47,11 +47,6 @@ find cmd1 cmd2 (c ∷ cs) = let later = find cmd1 cmd2 cs in cond (has_code cmd1
 unfoldable pub command_of : ℕ → ℕ → Found
 command_of cmd1 cmd2 = find cmd1 cmd2 table
 
--- each of these commands passes the test
-unfoldable pub every : (Command → Bool) → List Command → Bool
-every test [] = true
-every test (c ∷ cs) = test c && every test cs
-
 -- the same command
 abbrev pub same : Command → Command → Bool
 same a b = has_code (cmd1_for a) (cmd2_for a) b

@@ -2,11 +2,10 @@
 // how a complete packet is judged, what it changes and the response it draws, and the calls that
 // receive, play and encode packets. Every call answers on every input and controller.
 
-// The commands: the table, the settings and whether two have the same values (same), which values are
-// allowed, and a command's data as bytes (data) and as values (value).
+// The commands: the table, the settings, which values are allowed, and a command's data as bytes
+// (data) and as values (value).
 mod data;
 mod rules;
-mod same;
 mod settings;
 mod table;
 mod value;
@@ -22,7 +21,7 @@ mod ruling;
 mod transfer;
 
 // The head, and the calls: receive; judge a packet, and carry out the judgement; play, encode and the
-// shipping lists.
+// standard list.
 mod asking;
 mod carrying;
 mod controller;
@@ -34,7 +33,7 @@ mod player;
 pub use asking::{Asked, Asking, Judged, ask, judge_packet};
 pub use carrying::{CarriedOut, CarryStep, Performed, carry_out, perform};
 pub use controller::{Controller, Registers};
-pub use encoder::{Encoded, LIST_OUTPUT, encode, short_list, standard_list};
+pub use encoder::{Encoded, LIST_OUTPUT, encode, standard_list};
 pub use endpoint::{Served, Step, receive, serve};
 pub use output::OUTPUT;
 pub use player::{Offence, Played, play};
@@ -43,7 +42,6 @@ pub use transfer::HOLD;
 
 // The commands and their values.
 pub use rules::WrongByte;
-pub use same::same_settings;
 pub use settings::{
     DisplaySetting, Drive, LedCurrent, Microseconds, PatternSequence, Settings, StaticColour,
     VideoInput, VideoMode, value_of,

@@ -68,7 +68,7 @@ pub record Carries (after : asking.Carrying) (refusal size : ℕ) (controller : 
   pub leaves : controller ≡ after.controller
   pub written : output ≡ after.output
 
--- A call of the encoder, or of a shipping list, that does as `after` says: the refusal, the length written at the output's start, the output afterwards.
+-- A call of the encoder, or of the standard list, that does as `after` says: the refusal, the length written at the output's start, the output afterwards.
 pub record Emits (after : encoding.After) (refusal size : ℕ) (output : List ℕ) : Type 0 where
   pub refused : refusal ≡ encoding.refusal_of after.answer
   pub count : size ≡ encoding.length_of after.answer

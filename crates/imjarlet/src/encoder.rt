@@ -1,6 +1,6 @@
-// The encoder and the shipping lists.
+// The encoder and the standard shipping list.
 ghost use Rattle.std.specs.Prelude.{cond, ◌≡◌, ltb};
-ghost use Rattle.command.specs.Encoder.{Refuses, outcome_of, refusal_of, length_of, list_call, short_call};
+ghost use Rattle.command.specs.Encoder.{Refuses, outcome_of, refusal_of, length_of, list_call};
 ghost use Rattle.imjarlet.specs.Exports.{Emits, write_call};
 
 use command::{Command, Encoded, Found, Settings};
@@ -69,19 +69,4 @@ pub extern "C" fn imjarlet_standard_list(settings: &Settings, out: &mut [u8], si
     ensures { Emits (list_call settings.now out.old) result size.new out.new }
 {
     list(*settings, out, size)
-}
-
-// The short list of settings by value.
-fn short(settings: Settings, out: &mut [u8], size: &mut u64) -> u32
-    ensures { Emits (short_call settings out.old) result size.new out.new }
-{
-    told(command::short_list(settings, out), size)
-}
-
-// One whole-packet write for each command whose values are not the factory's, in table order.
-#[unsafe(no_mangle)]
-pub extern "C" fn imjarlet_short_list(settings: &Settings, out: &mut [u8], size: &mut u64) -> u32
-    ensures { Emits (short_call settings.now out.old) result size.new out.new }
-{
-    short(*settings, out, size)
 }

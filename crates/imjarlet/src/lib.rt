@@ -4,7 +4,7 @@
 //
 //   endpoint  a head at power-up, and the receive call over a controller that the caller lends
 //   asking    what a packet would draw, and carrying out a judgement, over what the caller lends
-//   encoder   the encoder and the shipping lists
+//   encoder   the encoder and the standard shipping list
 //   verdict   the answer to a tuning report
 mod asking;
 mod encoder;
@@ -12,6 +12,6 @@ mod endpoint;
 mod verdict;
 
 pub use asking::{imjarlet_carry_out, imjarlet_judge};
-pub use encoder::{imjarlet_encode, imjarlet_short_list, imjarlet_standard_list};
+pub use encoder::{imjarlet_encode, imjarlet_standard_list};
 pub use endpoint::{imjarlet_receive, imjarlet_reset};
 pub use verdict::{Verdict, imjarlet_check_report};

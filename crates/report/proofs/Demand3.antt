@@ -1,4 +1,4 @@
--- Demand 3: a report is accepted exactly when its claim holds, and one that ships the standard list is. The law of that is about any list call.
+-- Demand 3: a report is accepted exactly when its claim holds, and one that ships the standard list is.
 use Prim.Native.Nat.{ℕ, zero, suc, ◌+◌, ◌≤◌}
 use mathlib.Core.Logic.{◌↔◌}
 use mathlib.Core.Path.{◌≡◌, refl, ap, ap₂, sym, ◌∙◌, subst}
@@ -6,43 +6,43 @@ use mathlib.Core.Bool.{Bool, true, false}
 use mathlib.Core.List.{List, [], ◌∷◌, ◌++◌, append-nil}
 use mathlib.Core.Option.{none}
 use native.Mathlib.Omega.{arith}
-use lib.ListN.{length}
+use borrow.Author.Tests.{le-ltb}
+use lib.ListN.{length, take, drop}
 use lib.Seq.{take_at, drop_at}
 use Rattle.packet.specs.Number.{bytes_of, Bytes}
 use Rattle.packet.specs.Writer.{written}
-use Rattle.command.specs.Settings.{factory, same_settings}
-use Rattle.command.specs.Rules.{settings_in_rule}
+use Rattle.command.specs.Settings.{factory}
 use Rattle.command.specs.declared.settings.Settings.{Settings}
-use Rattle.command.specs.Player.{play, offence, WhollyAcknowledged, Takes}
-use Rattle.command.specs.Encoder.{After, Writes, standard_list, writes, list_call}
-use Rattle.command.proofs.SameLaws.{settings_true, settings_refl}
+use Rattle.command.specs.Player.{State, play, offence}
+use Rattle.command.specs.Encoder.{standard_list, Writes, writes, list_call}
 use Rattle.command.proofs.RulesLaws.{Kept, Fits, in_rule_of, kept_factory, fits_factory}
-use Rattle.command.proofs.EncoderLists.{standard-takes, standard_answers, standard_size}
+use Rattle.command.proofs.EncoderLists.{standard-plays, standard-acknowledged, standard-finished, standard_size}
 use Rattle.command.proofs.PlayerLaws.{Holding, holding_play, kept_play}
 use Rattle.command.proofs.PlayerOffences.{earliest-named, none_named}
 use Rattle.report.specs.Record.{Out}
-use Rattle.report.specs.Report.{Trial, Report, read_report, score_at, end_from, first_lowest, check_report, Verdict, Accepted, Refused, verdict_of, verdict}
-use Rattle.report.specs.Claim.{record_of, head_of, trial_of, trial_records, report_of, Layout, FirstLowest, Claim, Listed, ShipsList, Lists, Demand3}
+use Rattle.report.specs.Report.{Trial, Report, read_report, score_at, end_from, first_lowest, same_settings, check_report, Verdict, Accepted, Refused, verdict_of, verdict}
+use Rattle.report.specs.Claim.{record_of, head_of, trial_of, trial_records, report_of, FirstLowest, Ships, Claim, Listed, Standard, Lists, Demand3}
 use Rattle.report.specs.Refusals.{shipping_byte, Fault, F17, F18, F19, Refusal, Later}
 use Rattle.report.proofs.record.Laws.{run, pass, pass_none}
+use Rattle.report.proofs.same.Laws.{settings_true, settings_refl}
 use Rattle.report.proofs.trials.Laws.{lowest_true, lowest_back}
 use Rattle.report.proofs.verdict.Laid.{reading_whole}
 use Rattle.report.proofs.verdict.Reading.{Ends, bad, good, then, needs, needs-none, Laid, reading_report}
 
 -- The test of what ships, and the claim: nothing offends.
-pub ships_none : (f : Settings) (b : List ℕ) → offence f b ≡ none → WhollyAcknowledged f b
+pub ships_none : (f : Settings) (b : List ℕ) → offence f b ≡ none → Ships f b
 ships_none f b h =
     let c = (none_named f b).0 h in
     record { acknowledged = c.0; closed = c.1; finished = c.2 }
 
-pub nothing_offends : (f : Settings) (b : List ℕ) → WhollyAcknowledged f b → offence f b ≡ none
+pub nothing_offends : (f : Settings) (b : List ℕ) → Ships f b → offence f b ≡ none
 nothing_offends f b s = (none_named f b).1 (s.acknowledged, s.closed, s.finished)
 
 -- From the verdict to the claim: the report was read, and passed the last three tests.
 record Passed (r : List ℕ) (p : Report) : Type 0 where
   kept : Laid r p
   first : FirstLowest p.trials p.winner
-  ships : WhollyAcknowledged factory p.shipping
+  ships : Ships factory p.shipping
   equal : (play factory p.shipping).settings ≡ end_from factory p.trials p.winner
 
 -- a test that fails where a fact would pass it
@@ -113,8 +113,8 @@ claimed r k n s c =
 pub demand3 : (r : List ℕ) (k n : ℕ) (s : Settings) → Bytes r → (verdict r ≡ Accepted k n s) ↔ Claim r k n s
 demand3 r k n s b = (accepted r k n s b, claimed r k n s)
 
--- The lists. What the trials sent are bytes of the report.
-abbrev pub TrialBytes : List Trial → Type 0
+-- The standard list. What the trials sent are bytes of the report.
+abbrev TrialBytes : List Trial → Type 0
 TrialBytes [] = Unit {0}
 TrialBytes (t ∷ ts) = Bytes t.bytes × TrialBytes ts
 
@@ -141,7 +141,7 @@ kept_end s [] k h = h
 kept_end s (t ∷ ts) zero h = kept_play s t.bytes h
 kept_end s (t ∷ ts) (suc k) h = kept_end (play s t.bytes).settings ts k (kept_play s t.bytes h)
 
-pub fits_end : (s : Settings) (ts : List Trial) (k : ℕ) → Kept s → Fits s → TrialBytes ts → Fits (end_from s ts k)
+fits_end : (s : Settings) (ts : List Trial) (k : ℕ) → Kept s → Fits s → TrialBytes ts → Fits (end_from s ts k)
 unfolding end_from
 fits_end s [] k r f b = f
 fits_end s (t ∷ ts) zero r f b = (holding_play s t.bytes r f b.0).fits
@@ -149,60 +149,63 @@ fits_end s (t ∷ ts) (suc k) r f b =
     let h : Holding (play s t.bytes) = holding_play s t.bytes r f b.0 in
     fits_end (play s t.bytes).settings ts k h.rules h.fits b.1
 
--- The standard list call for settings that keep the rules.
-pub lists_all : (s : Settings) → Kept s → (out : List ℕ) → 128 ≤ length out → Lists s out
-unfolding written
-lists_all s kept out room =
-    let e = standard_answers s out (in_rule_of s kept) room in
-    record {
-      answer = rw e (ap Writes (standard_size s));
-      start = rw e (take_at (standard_list s) _ 111 (standard_size s));
-      rest = rw e (drop_at (standard_list s) _ 111 (standard_size s) ∙ rw (standard_size s));
-    }
+-- What the standard list call writes for settings that keep the rules.
+module _ (s : Settings) (kept : Kept s) where
+  listed-call : (out : List ℕ) → 128 ≤ length out → list_call s out ≡ writes (standard_list s) out
+  unfolding list_call
+  listed-call out room = rw (le-ltb (length out) 128 room, in_rule_of s kept)
 
--- A list call, the bytes that it writes, and that they take a head from factory values to the settings that they are made from.
-pub record ListCall (call : Settings → List ℕ → After) (list : Settings → List ℕ) : Type 0 where
-  pub answers : (s : Settings) (out : List ℕ) → settings_in_rule s ≡ true → 128 ≤ length out → call s out ≡ writes (list s) out
-  pub takes : (s : Settings) → Kept s → Fits s → Takes factory (list s) s
-
-pub standard_call : ListCall list_call standard_list
-standard_call = record { answers = standard_answers; takes = λ s kept fits. standard-takes s kept fits factory }
-
-module _ (call : Settings → List ℕ → After) (list : Settings → List ℕ) (l : ListCall call list) where
-  -- the bytes that the call wrote are the list
-  pub listed : (s : Settings) → Kept s → (b : List ℕ) → Listed call s b → b ≡ list s
+  listed_start : (out : List ℕ) → 128 ≤ length out → take 111 (list_call s out).output ≡ standard_list s
   unfolding written
-  listed s kept b h =
-      let e = l.answers s h.out (in_rule_of s kept) h.room in
-      let n : h.size ≡ length (list s) = writes-same (sym h.answer ∙ ap (λ (x : After). x.answer) e) in
-      h.start ∙ rw (e, n) (take_at (list s) _ (length (list s)) refl)
+  listed_start out room = rw (listed-call out room) (take_at (standard_list s) _ 111 (standard_size s))
+
+  pub lists-all : (out : List ℕ) → 128 ≤ length out → Lists s out
+  unfolding written
+  lists-all out room =
+      record {
+        answer = rw (listed-call out room) (ap Writes (standard_size s));
+        start = listed_start out room;
+        rest = rw (listed-call out room) (drop_at (standard_list s) _ 111 (standard_size s) ∙ rw (standard_size s));
+      }
+
+  -- the bytes that the call wrote are the standard list
+  listed : (b : List ℕ) → Listed s b → b ≡ standard_list s
+  listed b h =
+      let n : h.size ≡ 111 = writes-same (sym h.answer ∙ (lists-all h.out h.room).answer) in
+      h.start ∙ ap (λ (x : ℕ). take x (list_call s h.out).output) n ∙ listed_start h.out h.room
     where
       writes-same : {m n : ℕ} → Writes m ≡ Writes n → m ≡ n
       writes-same e = cc
 
-  -- Any report of at least one trial and at most 60,000 bytes that keeps the layout, names the first of its lowest-scored trials
-  -- and ships the list for that trial's end settings is accepted, whatever its trials sent.
-  pub list-verdict : (r : List ℕ) (ts : List Trial) (k : ℕ) (ship : List ℕ) → TrialBytes ts → ShipsList call r ts k ship → verdict r ≡ Accepted k (score_at ts k) (end_from factory ts k)
-  list-verdict r ts k ship sent s =
-      let e = end_from factory ts k in
-      let kept = kept_end factory ts k kept_factory in
-      let t = subst (λ (b : List ℕ). Takes factory b e) (sym (listed e kept ship s.list)) (l.takes e kept (fits_end factory ts k kept_factory fits_factory sent)) in
-      claimed r k (score_at ts k) e
-      (record {
-        trials = ts;
-        shipping = ship;
-        short = s.short;
-        layout = s.layout;
-        first = s.first;
-        scored = refl;
-        ends = refl;
-        ships = t.wholly;
-        equal = t.ends;
-      })
-
-pub sent_bytes : (r : List ℕ) (ts : List Trial) (k : ℕ) (ship : List ℕ) → Bytes r → Layout r ts k ship → TrialBytes ts
+-- Any report of at least one trial and at most 60,000 bytes that keeps the layout, names the first of its lowest-scored trials
+-- and ships the standard list for that trial's end settings is accepted, whatever its trials sent.
+pub standard_verdict : (r : List ℕ) (ts : List Trial) (k : ℕ) → Bytes r → Standard r ts k → verdict r ≡ Accepted k (score_at ts k) (end_from factory ts k)
 unfolding report_of
-sent_bytes r ts k ship b y = trial_bytes ts _ (bytes_parts (head_of (length ts)) _ (subst Bytes y.laid b)).1
+standard_verdict r ts k b s =
+    let e = end_from factory ts k in
+    let y = s.layout in
+    let sent = trial_bytes ts _ (bytes_parts (head_of (length ts)) _ (subst Bytes y.laid b)).1 in
+    let kept = kept_end factory ts k kept_factory in
+    let fits = fits_end factory ts k kept_factory fits_factory sent in
+    let list = listed e kept s.shipping s.list in
+    claimed r k (score_at ts k) e
+    (record {
+      trials = ts;
+      shipping = s.shipping;
+      short = s.short;
+      layout = y;
+      first = s.first;
+      scored = refl;
+      ends = refl;
+      ships =
+          subst (Ships factory) (sym list)
+          (record {
+            acknowledged = standard-acknowledged e kept fits;
+            closed = ap (λ (p : State). p.transfer) (standard-plays e kept fits);
+            finished = standard-finished e kept fits;
+          });
+      equal = ap (λ (x : List ℕ). (play factory x).settings) list ∙ ap (λ (p : State). p.settings) (standard-plays e kept fits);
+    })
 
 -- An answer that is the verdict meets the whole of demand 3.
 pub demand3_of : (r : List ℕ) (v : Verdict) → Bytes r → v ≡ verdict r → Demand3 r v
@@ -210,6 +213,6 @@ demand3_of r v b e =
     record {
       ruled = e;
       exactly = λ k n s. ((λ h. accepted r k n s b (sym e ∙ h)), (λ h. e ∙ claimed r k n s h));
-      standard = λ ts k s. e ∙ list-verdict list_call standard_list standard_call r ts k s.0 (sent_bytes r ts k s.0 b s.1.layout) s.1;
-      lists = λ ts k. lists_all (end_from factory ts k) (kept_end factory ts k kept_factory);
+      standard = λ ts k s. e ∙ standard_verdict r ts k b s;
+      lists = λ ts k. lists-all (end_from factory ts k) (kept_end factory ts k kept_factory);
     }

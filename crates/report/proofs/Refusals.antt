@@ -11,15 +11,15 @@ use lib.ListN.{length, take, length-append}
 use Rattle.packet.specs.Number.{value_of, bytes_of, Bytes}
 use Rattle.packet.proofs.Cases.{bool_cases}
 use Rattle.packet.proofs.NumberLaws.{value_bytes}
-use Rattle.command.specs.Settings.{factory, same_settings}
-use Rattle.command.specs.Player.{play, is_nil, Earliest, WhollyAcknowledged}
-use Rattle.command.proofs.SameLaws.{settings_true}
+use Rattle.command.specs.Settings.{factory}
+use Rattle.command.specs.Player.{play, is_nil, Earliest}
 use Rattle.command.proofs.PlayerOffences.{earliest-named}
 use Rattle.report.specs.Record.{Bad, Good, ◌>>=◌, ◌>>◌, need, sized, reading}
-use Rattle.report.specs.Report.{Trial, Report, read_trials, read_head, read_end, read_report, end_from, first_lowest, check_report, Refused, verdict_of, verdict}
-use Rattle.report.specs.Claim.{record_of, head_of, trial_records, report_of, Scores, Layout, FirstLowest}
+use Rattle.report.specs.Report.{Trial, Report, read_trials, read_head, read_end, read_report, end_from, first_lowest, same_settings, check_report, Refused, verdict_of, verdict}
+use Rattle.report.specs.Claim.{record_of, head_of, trial_records, report_of, Scores, Layout, FirstLowest, Ships}
 use Rattle.report.specs.Refusals.{shipping_byte, Begins, Due, Head, More, Winner, Shipping, WrongLength, NotFour, UnderFour, NotTwo, Fault, F11, F12, F13, F14, F15, F16, F17, F18, F19, F20, Refusal, Long, Later}
 use Rattle.report.proofs.record.Laws.{run, stop, pass, pass_none, fail, fail_some, short-body, other-kind, wrong_size}
+use Rattle.report.proofs.same.Laws.{settings_true}
 use Rattle.report.proofs.trials.Laws.{lowest_true, lowest_back}
 use Rattle.report.proofs.verdict.Laid.{length_before, length_report, count_bound, length-there, kind-there, whole-there, reading-record, head_laid, to_trials, reading_prefix, to_winner, winner_laid, to_shipping, reading_whole}
 use Rattle.report.proofs.Demand3.{nothing_offends, Says, verdict_says}
@@ -183,7 +183,7 @@ module _ (r : List ℕ) (l : length r ≤ 60000) where
           (fail_some _ 18 ((8 + length (trial_records ts)) + 10) _ ((earliest-named factory ship n).1 h) ∙ ap (Bad 18) ten))
 
       -- 19
-      not_same : WhollyAcknowledged factory ship → ((play factory ship).settings ≡ end_from factory ts k → ⊥) → verdict r ≡ Refused 19 (14 + length (trial_records ts))
+      not_same : Ships factory ship → ((play factory ship).settings ≡ end_from factory ts k → ⊥) → verdict r ≡ Refused 19 (14 + length (trial_records ts))
       unfolding check_report
       not_same c h =
           let a = (play factory ship).settings in

@@ -9,16 +9,16 @@ use lib.ListN.{length, take, drop, length-append}
 use lib.Seq.{drop_at, drop-drop}
 use Rattle.packet.specs.Number.{bytes_of, Bytes}
 use Rattle.packet.proofs.Cases.{bool_cases, never}
-use Rattle.command.specs.Settings.{factory, same_settings}
-use Rattle.command.specs.Player.{play, offence, Offends, offending, Earliest, WhollyAcknowledged}
+use Rattle.command.specs.Settings.{factory}
+use Rattle.command.specs.Player.{play, offence, Offends, offending, Earliest}
 use Rattle.command.specs.declared.settings.Settings.{Settings}
-use Rattle.command.proofs.SameLaws.{settings_true, settings_refl}
 use Rattle.command.proofs.Request4 as command
 use Rattle.command.proofs.PlayerOffences.{none-offends, earliest-named}
-use Rattle.report.specs.Report.{Trial, end_from, Refused, verdict}
-use Rattle.report.specs.Claim.{record_of, head_of, trial_records, report_of, Layout, FirstLowest}
+use Rattle.report.specs.Report.{Trial, end_from, same_settings, Refused, verdict}
+use Rattle.report.specs.Claim.{record_of, head_of, trial_records, report_of, Layout, FirstLowest, Ships}
 use Rattle.report.specs.Refusals.{shipping_byte, F18, F19, Later}
 use Rattle.report.specs.Request4.{Reaches, Request4}
+use Rattle.report.proofs.same.Laws.{settings_true, settings_refl}
 use Rattle.report.proofs.verdict.Laid.{length_report}
 use Rattle.report.proofs.Demand3.{ships_none, claimed}
 use Rattle.report.proofs.Refusals.{refused_exactly}
@@ -38,7 +38,7 @@ refused_18 r b l ts k ship n y w e = (refused_exactly r 18 (shipping_byte ts n) 
 
 module _ (r : List ℕ) (ts : List Trial) (k : ℕ) (ship : List ℕ) (b : Bytes r) (h : Reaches r ts k ship) where
   -- where all ships the report is accepted or refused with 19
-  ships-not-18 : WhollyAcknowledged factory ship → (p : ℕ) → verdict r ≡ Refused 18 p → ⊥
+  ships-not-18 : Ships factory ship → (p : ℕ) → verdict r ≡ Refused 18 p → ⊥
   ships-not-18 s p e =
       let played = (play factory ship).settings in
       let end = end_from factory ts k in
@@ -66,10 +66,10 @@ module _ (r : List ℕ) (ts : List Trial) (k : ℕ) (ship : List ℕ) (b : Bytes
   earliest-18 : (n : ℕ) → Earliest factory ship n → verdict r ≡ Refused 18 (shipping_byte ts n)
   earliest-18 n = refused_18 r b h.short ts k ship n h.layout h.lowest
 
-  refuses-18 : ((p : ℕ) × (verdict r ≡ Refused 18 p)) ↔ (WhollyAcknowledged factory ship → ⊥)
+  refuses-18 : ((p : ℕ) × (verdict r ≡ Refused 18 p)) ↔ (Ships factory ship → ⊥)
   refuses-18 = (λ x s. ships-not-18 s x.0 x.1, λ f. go f (offence factory ship) refl)
     where
-      go : (WhollyAcknowledged factory ship → ⊥) → (o : Option ℕ) → offence factory ship ≡ o → (p : ℕ) × (verdict r ≡ Refused 18 p)
+      go : (Ships factory ship → ⊥) → (o : Option ℕ) → offence factory ship ≡ o → (p : ℕ) × (verdict r ≡ Refused 18 p)
       go f none e = absurd (f (ships_none factory ship e))
       go f (some m) e = (shipping_byte ts m, earliest-18 m ((earliest-named factory ship m).0 e))
 

@@ -1,10 +1,11 @@
 -- Demand 3: when a report is accepted, and with what.
-use Rattle.std.specs.Prelude.{ℕ, ◌^◌, ◌≤◌, ◌<◌, ◌≡◌, ◌↔◌, List, [], ◌∷◌, ◌++◌, length, take, drop}
+use Rattle.std.specs.Prelude.{ℕ, ◌^◌, ◌≤◌, ◌<◌, ◌≡◌, ◌↔◌, true, List, [], ◌∷◌, ◌++◌, length, take, drop}
 use Rattle.packet.specs.Number.{bytes_of}
 use Rattle.command.specs.Settings.{factory}
 use Rattle.command.specs.declared.settings.Settings.{Settings}
-use Rattle.command.specs.Player.{play, WhollyAcknowledged}
-use Rattle.command.specs.Encoder.{After, Writes, standard_list, list_call}
+use Rattle.command.specs.Transfer.{Closed}
+use Rattle.command.specs.Player.{judgements_on, play, all_acknowledged, half_sent}
+use Rattle.command.specs.Encoder.{standard_list, Writes, list_call}
 use Rattle.report.specs.Report.{Trial, score_at, end_from, Verdict, Accepted, verdict}
 
 -- Records: body length (2 bytes), kind (2 bytes), body.
@@ -45,6 +46,12 @@ pub record FirstLowest (ts : List Trial) (k : ℕ) : Type 0 where
   pub lowest : (i : ℕ) → i < length ts → score_at ts k ≤ score_at ts i
   pub earlier : (i : ℕ) → i < k → score_at ts k < score_at ts i
 
+-- Played from these factory values, the packets are each acknowledged, and no transfer and no packet is left half sent.
+pub record Ships (f : Settings) (b : List ℕ) : Type 0 where
+  pub acknowledged : all_acknowledged (judgements_on f b) ≡ true
+  pub closed : (play f b).transfer ≡ Closed
+  pub finished : half_sent b ≡ []
+
 -- The claim of the report r: trial k is its winner, with this score and these end settings.
 pub record Claim (r : List ℕ) (k score : ℕ) (s : Settings) : Type 0 where
   pub trials : List Trial
@@ -59,29 +66,26 @@ pub record Claim (r : List ℕ) (k score : ℕ) (s : Settings) : Type 0 where
   -- the settings that trial ended with: trial 0 starts from factory values, each later trial from where the last ended
   pub ends : s ≡ end_from factory trials k
   -- the shipping packets are each acknowledged, and nothing is left half sent
-  pub ships : WhollyAcknowledged factory shipping
+  pub ships : Ships factory shipping
   -- the settings come out equal to those that trial ended with
   pub equal : (play factory shipping).settings ≡ s
 
--- A list call for the settings s writes these bytes at the start of an output that is long enough.
-pub record Listed (call : Settings → List ℕ → After) (s : Settings) (b : List ℕ) : Type 0 where
+-- The standard list call for the settings s writes these bytes at the start of an output that is long enough.
+pub record Listed (s : Settings) (b : List ℕ) : Type 0 where
   pub out : List ℕ
   pub room : 128 ≤ length out
   pub size : ℕ
-  pub answer : (call s out).answer ≡ Writes size
-  pub start : b ≡ take size (call s out).output
+  pub answer : (list_call s out).answer ≡ Writes size
+  pub start : b ≡ take size (list_call s out).output
 
--- The report r keeps the layout, names trial k, the first of its lowest-scored, and ships the bytes that a list call writes for that trial's end
--- settings.
-pub record ShipsList (call : Settings → List ℕ → After) (r : List ℕ) (ts : List Trial) (k : ℕ) (ship : List ℕ) : Type 0 where
+-- The report r keeps the layout, names trial k, the first of its lowest-scored, and ships the bytes that the standard list call writes for that
+-- trial's end settings.
+pub record Standard (r : List ℕ) (ts : List Trial) (k : ℕ) : Type 0 where
+  pub shipping : List ℕ
   pub short : length r ≤ 60000
-  pub layout : Layout r ts k ship
+  pub layout : Layout r ts k shipping
   pub first : FirstLowest ts k
-  pub list : Listed call (end_from factory ts k) ship
-
--- those that the standard list call writes
-abbrev pub Standard : List ℕ → List Trial → ℕ → Type 0
-Standard r ts k = (ship : List ℕ) × ShipsList list_call r ts k ship
+  pub list : Listed (end_from factory ts k) shipping
 
 -- The standard list call for the settings s does not refuse this output: it writes the standard list, 111 bytes, and leaves the rest untouched.
 pub record Lists (s : Settings) (out : List ℕ) : Type 0 where

@@ -1,4 +1,4 @@
--- Examples about the rules: document 01's starred packets and reports, each row of the table at its limits, request 2's counts, each fault alone, request 4's bytes and places, and request 6's short lists. Packets go to a fresh factory head.
+-- Examples about the rules: document 01's starred packets and reports, each row of the table at its limits, request 2's counts, each fault alone, and request 4's bytes and places. Packets go to a fresh factory head.
 use Rattle.std.specs.Prelude.{ℕ, Bool, true, false, not, ◌&&◌, List, [], ◌∷◌, ◌++◌, eqb, replicate}
 use Prim.Native.String.{String}
 use Rattle.std.proofs.Math.Option.{Option, none, some}
@@ -9,7 +9,6 @@ use Rattle.command.specs.declared.table.Command.TheVariants.{DisplayMode, TestPa
 use Rattle.command.specs.Response.{codes_in, wrong_in}
 use Rattle.command.specs.Player.{State, from, judged, next, answers_to, play, offence}
 use Rattle.command.specs.Data.{same_list}
-use Rattle.command.specs.Encoder.{short_list}
 use Rattle.report.specs.Report.{verdict}
 use Rattle.report.specs.Line.{text_of, line_of}
 
@@ -29,8 +28,6 @@ pub data Example : Type 0 where
   Forbids : Command → List ℕ → Example
   -- some that are not, and the byte that is wrong
   Names : Command → List ℕ → ℕ → Example
-  -- bytes, and the short list of the settings after them
-  Lists : List ℕ → List ℕ → Example
   -- a report, and the line that the checking program prints
   Prints : List ℕ → String → Example
 
@@ -56,7 +53,6 @@ holds (Offends b n) = same_place (offence factory b) n
 holds (Allows c v) = allowed c v
 holds (Forbids c v) = not (allowed c v)
 holds (Names c v n) = same_place (byte_of (wrong_byte c v)) (some n)
-holds (Lists b l) = same_list (short_list (play factory b).settings) l
 holds (Prints r t) = same_list (line_of (verdict r)) (text_of t)
 
 unfoldable pub hold : List Example → Bool
@@ -341,39 +337,6 @@ places =
     ∷ Prints (two_trials ++ (0x0E ∷ 0x00 ∷ 0x04 ∷ 0x00 ∷ []) ++ begun ++ continued) "refused 18 at 50\n"
     ∷ []
 
--- Request 6: display mode 4 written, run 1, and the same taken back.
-abbrev pub mode4 : List ℕ
-mode4 = 0x02 ∷ 0x01 ∷ 0x01 ∷ 0x00 ∷ 0x01 ∷ 0x00 ∷ 0x04 ∷ 0x09 ∷ []
-
-abbrev pub run1 : List ℕ
-run1 = 0x02 ∷ 0x04 ∷ 0x02 ∷ 0x00 ∷ 0x01 ∷ 0x00 ∷ 0x01 ∷ 0x0A ∷ []
-
-abbrev pub mode0 : List ℕ
-mode0 = 0x02 ∷ 0x01 ∷ 0x01 ∷ 0x00 ∷ 0x01 ∷ 0x00 ∷ 0x00 ∷ 0x05 ∷ []
-
--- blue 275, red and green the factory's: the last field of a command alone
-abbrev pub blue275 : List ℕ
-blue275 = 0x02 ∷ 0x01 ∷ 0x04 ∷ 0x00 ∷ 0x06 ∷ 0x00 ∷ 0x12 ∷ 0x01 ∷ 0x12 ∷ 0x01 ∷ 0x13 ∷ 0x01 ∷ 0x47 ∷ []
-
-abbrev pub short_lists : List Example
-short_lists =
-    -- nothing differs: no byte
-    Lists [] []
-    ∷ Lists written written
-    ∷ Lists blue275 blue275
-    -- a transfer, a write again and a packet that is refused: one whole-packet write
-    ∷ Lists (begun ++ ended) written
-    ∷ Lists (ended ++ written ++ written ++ not_allowed) written
-    -- in table order: the mode, which run 1 needs, and the run last
-    ∷ Lists (written ++ mode4 ++ run1 ++ blue275) (mode4 ++ written ++ blue275 ++ run1)
-    -- back at the factory's values; leaving mode 4 stopped the sequence
-    ∷ Lists (mode4 ++ run1 ++ mode0) []
-    -- document 01's two trials, shipping the short list of what the second ended with: the mode, and the test pattern that it inherited
-    ∷ Prints
-    (two_trials ++ (0x10 ∷ 0x00 ∷ 0x04 ∷ 0x00 ∷ []) ++ (0x02 ∷ 0x01 ∷ 0x01 ∷ 0x00 ∷ 0x01 ∷ 0x00 ∷ 0x01 ∷ 0x06 ∷ []) ++ (0x02 ∷ 0x01 ∷ 0x03 ∷ 0x00 ∷ 0x01 ∷ 0x00 ∷ 0x03 ∷ 0x0A ∷ []))
-    "accepted trial 1 score 7\n"
-    ∷ []
-
 -- the table
 abbrev pub examples : List Example
-examples = starred ++ (reports ++ (rows ++ (counts ++ (faults_alone ++ (transfers ++ (wrong_bytes ++ (places ++ short_lists)))))))
+examples = starred ++ (reports ++ (rows ++ (counts ++ (faults_alone ++ (transfers ++ (wrong_bytes ++ places))))))

@@ -7,6 +7,5 @@ pub mod Verdict
 pub mod Line
 pub mod Request2
 pub mod Request4
-pub mod Request6
 pub mod Examples
 pub mod Inner

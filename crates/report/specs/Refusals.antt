@@ -2,9 +2,9 @@
 use Rattle.std.specs.Prelude.{ℕ, ◌+◌, ◌≤◌, ◌<◌, ◌≡◌, List, ◌∷◌, ◌++◌, length, take}
 use Rattle.packet.specs.Number.{value_of, bytes_of}
 use Rattle.command.specs.Settings.{factory}
-use Rattle.command.specs.Player.{play, Earliest, WhollyAcknowledged}
+use Rattle.command.specs.Player.{play, Earliest}
 use Rattle.report.specs.Report.{Trial, end_from}
-use Rattle.report.specs.Claim.{record_of, head_of, trial_records, report_of, Scores, Layout, FirstLowest}
+use Rattle.report.specs.Claim.{record_of, head_of, trial_records, report_of, Scores, Layout, FirstLowest, Ships}
 
 -- the report begins with kind 1, which counts n trials, and with the records of these trials
 pub record Begins (r : List ℕ) (n : ℕ) (ts : List Trial) (left : List ℕ) : Type 0 where
@@ -61,7 +61,7 @@ pub data Fault (r : List ℕ) : ℕ → ℕ → Type 0 where
   -- shipping bytes not all whole packets, one not answered by a write response, or a transfer left open; at the earliest byte that offends (request 4)
   F18 : (ts : List Trial) (k : ℕ) (ship : List ℕ) (n : ℕ) → Layout r ts k ship → FirstLowest ts k → Earliest factory ship n → Fault r 18 (shipping_byte ts n)
   -- shipping settings differ from the winner's end settings
-  F19 : (ts : List Trial) (k : ℕ) (ship : List ℕ) → Layout r ts k ship → FirstLowest ts k → WhollyAcknowledged factory ship
+  F19 : (ts : List Trial) (k : ℕ) (ship : List ℕ) → Layout r ts k ship → FirstLowest ts k → Ships factory ship
       → ((play factory ship).settings ≡ end_from factory ts k → ⊥)
       → Fault r 19 (14 + length (trial_records ts))
 

@@ -1,8 +1,11 @@
 -- The tuning report: how it is read, its trials played one after another, and the verdict.
 use Rattle.std.specs.Prelude.{ℕ, zero, suc, ◌+◌, Bool, true, not, ◌&&◌, List, [], ◌∷◌, eqb, leb, ltb, length, take, drop}
 use Rattle.packet.specs.Number.{value_of}
-use Rattle.command.specs.Settings.{same_settings, factory}
+use Rattle.command.specs.Table.{table}
+use Rattle.command.specs.Settings.{values_of, factory}
+use Rattle.command.specs.Data.{same_list}
 use Rattle.command.specs.declared.settings.Settings.{Settings}
+use Rattle.command.specs.declared.table.Command.{Command}
 use Rattle.command.specs.Player.{play, is_nil, offence}
 use Rattle.report.specs.Record.{Out, Bad, Good, ◌>>=◌, ◌>>◌, need, without, reading}
 
@@ -83,6 +86,15 @@ earlier_above n (suc k) (t ∷ ts) = ltb n t.score && earlier_above n k ts
 -- the first of the lowest-scored: none scores below it and all earlier ones score above it
 unfoldable pub first_lowest : List Trial → ℕ → Bool
 first_lowest ts k = none_below (score_at ts k) ts && earlier_above (score_at ts k) k ts
+
+-- each of these commands passes the test
+unfoldable pub every : (Command → Bool) → List Command → Bool
+every f [] = true
+every f (c ∷ cs) = f c && every f cs
+
+-- the settings have the same values of every command in the table
+unfoldable pub same_settings : Settings → Settings → Bool
+same_settings a b = every (λ c. same_list (values_of c a) (values_of c b)) table
 
 -- The last three refusals, 17, 18 and 19, of a report played from these factory values. Kind 4 is 6 bytes after kind 3, and its shipping packets 10.
 unfoldable pub check_report : Settings → Report → Out Report

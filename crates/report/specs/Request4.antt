@@ -3,9 +3,9 @@
 use Rattle.std.specs.Prelude.{ℕ, ◌≤◌, ◌<◌, ◌≡◌, ◌↔◌, List, length, take, drop}
 use Rattle.packet.specs.Number.{Bytes}
 use Rattle.command.specs.Settings.{factory}
-use Rattle.command.specs.Player.{Offends, offending, Earliest, WhollyAcknowledged}
+use Rattle.command.specs.Player.{Offends, offending, Earliest}
 use Rattle.report.specs.Report.{Trial, Refused, verdict}
-use Rattle.report.specs.Claim.{Layout, FirstLowest}
+use Rattle.report.specs.Claim.{Layout, FirstLowest, Ships}
 use Rattle.report.specs.Refusals.{shipping_byte}
 
 -- no refusal before 18: the report r keeps the layout, and names the first of its lowest-scored
@@ -17,7 +17,7 @@ pub record Reaches (r : List ℕ) (ts : List Trial) (k : ℕ) (ship : List ℕ) 
 pub record Request4 : Type 0 where
   -- such a report is refused with 18 exactly when its shipping bytes are not all whole packets, each answered by a write response, with no transfer left open,
   pub refuses : (r : List ℕ) (ts : List Trial) (k : ℕ) (ship : List ℕ) → Bytes r → Reaches r ts k ship
-      → ((p : ℕ) × (verdict r ≡ Refused 18 p)) ↔ (WhollyAcknowledged factory ship → ⊥)
+      → ((p : ℕ) × (verdict r ≡ Refused 18 p)) ↔ (Ships factory ship → ⊥)
   -- and at a shipping byte exactly when it is the earliest that offends
   pub exactly : (r : List ℕ) (ts : List Trial) (k : ℕ) (ship : List ℕ) → Bytes r → Reaches r ts k ship → (n : ℕ)
       → (verdict r ≡ Refused 18 (shipping_byte ts n)) ↔ Earliest factory ship n

@@ -4,12 +4,14 @@
 //   head     kind 1: the trial count
 //   trials   kind 2: each trial played, and the first of the lowest-scored
 //   end      kinds 3 and 4: the winner, and nothing after the shipping packets
+//   same     equality of settings
 //   verdict  the yes or the no: `check`
 //   line     that answer as the checking program's line: `write_line`
 mod end;
 mod head;
 mod line;
 mod record;
+mod same;
 mod trials;
 mod verdict;
 

@@ -8,8 +8,9 @@ ghost use Rattle.report.specs.Verdict.{verdict_in, score_in, settings_in};
 use crate::end::{WINNER_RECORD, winner_of};
 use crate::head::count_of;
 use crate::record::{HEADER, Outcome, refusal};
+use crate::same::same_settings;
 use crate::trials::best_of;
-use command::{Offence, Settings, play, same_settings};
+use command::{Offence, Settings, play};
 
 // The answer to a report.
 #[derive(Drop)]

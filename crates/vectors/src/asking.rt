@@ -6,7 +6,7 @@
 ghost use Rattle.std.specs.Prelude.{◌≤◌, length};
 
 use crate::fields::{SETTINGS, byte, settings_from, word};
-use crate::said::{Said, further, hex, number, text};
+use crate::said::{Said, further, number, text};
 use crate::same::{same_bytes, same_controller, same_packet};
 use command::{
     Asked, CarriedOut, Controller, Encoded, HOLD, JudgementRecord, Kept, Registers, Ruling,
@@ -114,6 +114,15 @@ fn judgement_end(b: &[u8]) -> usize
 {
     let from = further(0, RULING, b.len());
     data_end(from, word(b, 6) as usize, b.len())
+}
+
+// The first n bytes of b.
+fn hex(b: &[u8], n: usize) {
+    if n == 0 {
+        text(b" -");
+        return;
+    }
+    Said::aloud().bytes(b" ", b, n);
 }
 
 fn cmd(cmd1: u8, cmd2: u8) {

@@ -1,10 +1,14 @@
-// What the shipping lists and the encoder write.
+// What the standard list and the encoder write.
 use crate::fields::{SETTINGS, byte, settings_from, word};
-use crate::said::{further, hex, number, text};
+use crate::said::{Said, further, number, text};
 use command::{Command, Encoded, Found, Settings};
 
 // Room for the longest output.
 const ROOM: usize = 2000;
+
+fn written(name: &[u8], out: &[u8], length: usize) {
+    Said::aloud().bytes(name, out, length);
+}
 
 // The number of a refusal; 0 is none.
 fn refusal(e: Encoded) -> usize {
@@ -19,10 +23,7 @@ fn refusal(e: Encoded) -> usize {
 // What is written, or the refusal.
 fn told(e: Encoded, out: &[u8]) {
     match e {
-        Encoded::Length(length) => {
-            text(b"written");
-            hex(out, length);
-        }
+        Encoded::Length(length) => written(b"written ", out, length),
         _ => number(b"refused ", refusal(e)),
     }
 }
@@ -39,20 +40,14 @@ fn counted(e: Encoded) {
 pub fn ended(s: Settings) {
     let mut out = [0u8; command::LIST_OUTPUT];
     if let Encoded::Length(length) = command::standard_list(s, &mut out) {
-        text(b"list");
-        hex(&out, length);
+        written(b"list ", &out, length);
         text(b"\n");
     }
 }
 
-// Both shipping lists, each to an output of its own, where nothing of the other stands.
-fn lists_to(s: Settings, standard: &mut [u8], short: &mut [u8]) {
-    text(b"standard ");
-    let e = command::standard_list(s, standard);
-    told(e, standard);
-    text(b" | short ");
-    let e = command::short_list(s, short);
-    told(e, short);
+fn list_to(s: Settings, out: &mut [u8]) {
+    let e = command::standard_list(s, out);
+    told(e, out);
 }
 
 // How long the standard list is.
@@ -78,16 +73,15 @@ pub fn packet_of(b: &[u8], s: Settings) {
 }
 
 // The output's length in two bytes, and the settings.
-pub fn lists(b: &[u8]) {
+pub fn list(b: &[u8]) {
     text(b": ");
     if b.len() != 2 + SETTINGS {
         text(b"of another length\n");
         return;
     }
-    let mut standard = [0u8; ROOM];
-    let mut short = [0u8; ROOM];
+    let mut out = [0u8; ROOM];
     let n = further(0, word(b, 0) as usize, ROOM);
-    lists_to(settings_from(b, 2), &mut standard[0..n], &mut short[0..n]);
+    list_to(settings_from(b, 2), &mut out[0..n]);
     text(b"\n");
 }
 

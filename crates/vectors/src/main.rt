@@ -1,15 +1,12 @@
 // Runs the stored cases and prints what the library answers; `rt` holds that to the file `stdout`.
 // The file `01` has the cases of document 01: 700 packets, each after some bytes sent before, 400
 // streams of host bytes, 51 streams for the packet layer, and 507 reports. The file `02` has those of
-// request 2: 220 streams, 233 reports, 200 shipping lists and 199 packets of the encoder. The file `03`
+// request 2: 220 streams, 233 reports, 200 standard lists and 199 packets of the encoder. The file `03`
 // tries each row of the guide's tables of parameter values at its limits and just past them, 521 cases.
 // The file `04` has those of request 4: 216 streams, 10 more in which several fields of a packet are wrong,
-// 233 reports, 15 more that are refused with 18, 200 shipping lists and 199 packets of the encoder.
-// The file `05` has those of request 5: 210 streams, 234 reports, 200 shipping lists, 200 packets of the
+// 233 reports, 15 more that are refused with 18, 200 standard lists and 199 packets of the encoder.
+// The file `05` has those of request 5: 210 streams, 234 reports, 200 standard lists, 200 packets of the
 // encoder, 300 packets to judge, 11 more, 377 judgements to carry out, and 45 more.
-// The file `06` has those of request 6: 204 streams, 6 more that are short lists, 237 reports, 8 more that
-// ship a short list, whole or without its last packet, 200 shipping lists, 40 more, and 200 packets of the
-// encoder. Settings that a shipping list is asked for are told with both, the standard and the short one.
 // A case is a row: its kind in a byte, its length in four, least significant first, and its bytes.
 // `scripts/vectors-data` makes the cases and the expected text from the vectors and the papers, and
 // nothing of it comes from this program. What is proved of the program is that it is safe and ends.
@@ -52,7 +49,7 @@ fn case(kind: u8, b: &[u8]) {
     match kind {
         b's' => stream::tell(b),
         b'r' => report(b),
-        b'l' => emit::lists(b),
+        b'l' => emit::list(b),
         b'e' => emit::packet(b),
         b'g' => guide::tell(b),
         b'j' => asking::judge(b),
@@ -101,5 +98,4 @@ fn main() {
     file(b"03");
     file(b"04");
     file(b"05");
-    file(b"06");
 }

@@ -94,12 +94,3 @@ impl Said {
         self
     }
 }
-
-// The first n bytes of b; "-" for none.
-pub fn hex(b: &[u8], n: usize) {
-    if n == 0 {
-        text(b" -");
-        return;
-    }
-    Said::aloud().bytes(b" ", b, n);
-}

@@ -329,8 +329,8 @@ module _ (c d : Controller) (p : List ℕ) (lent : JudgementRecord) (k : Ready c
       ∙ brought_out d (held (state_of c).transfer) (payload p) n (held_same c k) x
       ∙ ap (carried_out d (receiver_in d) (payload p)) judged-alike
 
-  state_is : state_of (carried_out d (receiver_in d) (brought_in given) (meant given)) ≡ next (state_of d) p
-  state_is = ap state_of left_is ∙ carried_state d l p (is_packet p o) (receiver_in d) (payload p) (λ _. refl)
+  state-is : state_of (carried_out d (receiver_in d) (brought_in given) (meant given)) ≡ next (state_of d) p
+  state-is = ap state_of left_is ∙ carried_state d l p (is_packet p o) (receiver_in d) (payload p) (λ _. refl)
 
   -- it is what document 01 says of the packet there
   obeys : (out : List ℕ) → 64 ≤ length out → Obeys d p out (carry_call d given out)
@@ -339,7 +339,7 @@ module _ (c d : Controller) (p : List ℕ) (lent : JudgementRecord) (k : Ready c
       record {
         answer = ap (λ (x : Carrying). x.answer) r ∙ ap (λ (m : List ℕ). Writes (length m)) response-is;
         output = ap (λ (x : Carrying). x.output) r ∙ ap (λ (m : List ℕ). written m out) response-is;
-        state = ap (λ (x : Carrying). state_of x.controller) r ∙ state_is;
+        state = ap (λ (x : Carrying). state_of x.controller) r ∙ state-is;
         receiver = half_stays d given out;
         ready = rule_stays d given out l;
       }

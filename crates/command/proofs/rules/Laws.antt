@@ -9,8 +9,8 @@ use borrow.Author.Tests.{not-true, leb-true}
 use lib.ListN.{length, get_or}
 use Rattle.packet.proofs.Cases.{bool_cases, cond_cases, and_left, and_right, and_both}
 use Rattle.command.specs.Data.{Fit}
-use Rattle.command.specs.Table.{table, every, same, layout}
-use Rattle.command.specs.Rules.{Field, all_valid, first_wrong, allowed, blocked, settings_in_rule}
+use Rattle.command.specs.Table.{table, cmd1_for, cmd2_for, find, command_of, same, layout}
+use Rattle.command.specs.Rules.{Field, all_valid, first_wrong, allowed, blocked, all_allowed, settings_in_rule}
 use Rattle.command.specs.Settings.{values_of, factory, values_after, store}
 use Rattle.command.specs.Value.{widths}
 use Rattle.command.specs.Inner.{is_nothing}
@@ -19,7 +19,8 @@ use Rattle.command.specs.declared.rules.WrongByte.TheVariants.{At}
 use Rattle.command.specs.declared.settings.Settings.{Settings}
 use Rattle.command.specs.declared.table.Command.{Command}
 use Rattle.command.specs.declared.table.Command.TheVariants.{DisplayMode, TestPattern, LedCurrent, StaticColour, DisplaySetting, VideoInput, VideoMode, PatternSequence, SequenceRun}
-use Rattle.command.proofs.table.Laws.{each, every_true, every_all, same_eq, fit_length, values_settings}
+use Rattle.command.specs.declared.table.Found.TheVariants.{Known}
+use Rattle.command.proofs.table.Laws.{each, found, find_later, same_eq, fit_length, values_settings}
 use Rattle.command.proofs.data.Laws.{fit_last}
 
 -- no byte is wrong exactly where each field is allowed
@@ -72,19 +73,31 @@ fit_data VideoMode v a f = fit_last (1 ∷ 1 ∷ []) 2 1 v (λ _. omega (arith, 
 fit_data PatternSequence v a f = fit_last (1 ∷ 1 ∷ 1 ∷ 1 ∷ 4 ∷ 4 ∷ 4 ∷ []) 4 1 v (λ _. omega (arith, most (get_or v 7 0) 2 (λ e. simp (e, and-false)) a)) f
 fit_data SequenceRun v a f = fit_last [] 4 1 v (λ _. omega (arith, most (get_or v 0 0) 1 (λ e. simp e) a)) f
 
+all_allowed_lem : (s : Settings) (cs : List Command) (c : Command) → find (cmd1_for c) (cmd2_for c) cs ≡ Known c → all_allowed s cs ≡ true → allowed c (values_of c s) ≡ true
+unfolding all_allowed find
+all_allowed_lem s [] c e h = let z : ◌≡◌ {A = ℕ} 0 1 = cc in absurd (omega arith)
+all_allowed_lem s (d ∷ cs) c e h =
+    bool_cases (same c d)
+    (λ t. rw (same_eq c d t) (and_left _ (all_allowed s cs) h))
+    (λ t. all_allowed_lem s cs c (find_later d cs (cmd1_for c) (cmd2_for c) (Known c) t e) (and_right (allowed d (values_of d s)) _ h))
+
+each_allowed : (s : Settings) → ((c : Command) → allowed c (values_of c s) ≡ true) → (cs : List Command) → all_allowed s cs ≡ true
+unfolding all_allowed
+each_allowed s h [] = refl
+each_allowed s h (c ∷ cs) = and_both _ _ (h c) (each_allowed s h cs)
+
 -- the test of refusal 3 says so
 pub kept_by : (s : Settings) → settings_in_rule s ≡ true → Kept s
-unfolding settings_in_rule
+unfolding settings_in_rule command_of
 kept_by s h =
-    let ok = every (λ c. allowed c (values_of c s)) table in
     record {
-      values = every_true (λ c. allowed c (values_of c s)) (and_left ok _ h);
-      running = not-true _ (and_right ok _ h);
+      values = λ c. all_allowed_lem s table c (found c) (and_left _ _ h);
+      running = not-true _ (and_right (all_allowed s table) _ h);
     }
 
 pub in_rule_of : (s : Settings) → Kept s → settings_in_rule s ≡ true
 unfolding settings_in_rule
-in_rule_of s k = and_both _ _ (every_all (λ c. allowed c (values_of c s)) k.values table) (ap not k.running)
+in_rule_of s k = and_both _ _ (each_allowed s k.values table) (ap not k.running)
 
 -- a write that may be carried out in a display mode
 pub record Writable (mode : ℕ) (c : Command) (v : List ℕ) : Type 0 where

@@ -1,5 +1,5 @@
 -- Laws of the table, and of settings as lists of values.
-use Prim.Native.Nat.{ℕ, zero, suc, ◌≤◌}
+use Prim.Native.Nat.{ℕ, zero, suc, ◌^◌, ◌<◌, ◌≤◌}
 use mathlib.Core.Path.{◌≡◌, refl, ap, sym, ◌∙◌}
 use mathlib.Core.Bool.{Bool, true, false, cond}
 use mathlib.Core.List.{List, [], ◌∷◌}
@@ -8,9 +8,9 @@ use lib.Dec.{eqb}
 use borrow.Author.Tests.{eqb-true}
 use lib.ListN.{length, get_or}
 use Rattle.packet.specs.Packet.{sum}
-use Rattle.packet.proofs.Cases.{bool_cases, never, and_left, and_right, and_both, and_cases}
+use Rattle.packet.proofs.Cases.{bool_cases, and_left, and_right}
 use Rattle.command.specs.Data.{Fit}
-use Rattle.command.specs.Table.{table, cmd1_for, cmd2_for, has_code, find, command_of, every, same, layout, size_of}
+use Rattle.command.specs.Table.{table, cmd1_for, cmd2_for, has_code, find, command_of, same, layout, size_of}
 use Rattle.command.specs.Settings.{values_of, settings_of}
 use Rattle.command.specs.declared.table.Command.{Command}
 use Rattle.command.specs.declared.table.Command.TheVariants.{DisplayMode, TestPattern, LedCurrent, StaticColour, DisplaySetting, VideoInput, VideoMode, PatternSequence, SequenceRun}
@@ -64,30 +64,6 @@ known_code a b c h = find_code table a b c h
 
 pub same_eq : (a b : Command) → same a b ≡ true → a ≡ b
 same_eq a b h = let e = has_code_lem (cmd1_for a) (cmd2_for a) b h in cc (found a, found b)
-
--- what every command of the table passes, each does
-every_found : (test : Command → Bool) (cs : List Command) (c : Command) → find (cmd1_for c) (cmd2_for c) cs ≡ Known c → every test cs ≡ true → test c ≡ true
-unfolding every find
-every_found test [] c e h = let z : ◌≡◌ {A = ℕ} 0 1 = cc in absurd (omega arith)
-every_found test (d ∷ cs) c e h =
-    bool_cases (same c d)
-    (λ t. rw (same_eq c d t) (and_left _ (every test cs) h))
-    (λ t. every_found test cs c (find_later d cs (cmd1_for c) (cmd2_for c) (Known c) t e) (and_right (test d) _ h))
-
-pub every_true : (test : Command → Bool) → every test table ≡ true → (c : Command) → test c ≡ true
-unfolding command_of
-every_true test h c = every_found test table c (found c) h
-
-pub every_all : (test : Command → Bool) → ((c : Command) → test c ≡ true) → (cs : List Command) → every test cs ≡ true
-unfolding every
-every_all test h [] = refl
-every_all test h (c ∷ cs) = and_both (test c) (every test cs) (h c) (every_all test h cs)
-
--- and where not all pass, one does not
-pub every_false : {P : Type 0} (test : Command → Bool) (cs : List Command) → every test cs ≡ false → ((c : Command) → test c ≡ false → P) → P
-unfolding every
-every_false test [] h f = never (sym h)
-every_false test (c ∷ cs) h f = and_cases (test c) (every test cs) (f c) (λ e. every_false test cs e f) h
 
 -- the data of every command are short
 pub size_small : (c : Command) → size_of c ≤ 17

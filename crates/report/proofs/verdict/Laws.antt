@@ -11,11 +11,11 @@ use lib.ListN.{length, take, drop, length-drop}
 use lib.Seq.{take_all}
 use Rattle.packet.specs.Number.{value_of, Bytes}
 use Rattle.packet.proofs.Cases.{bool_cases}
-use Rattle.command.specs.Settings.{factory, same_settings}
+use Rattle.command.specs.Settings.{factory}
 use Rattle.command.specs.declared.settings.Settings.{Settings}
 use Rattle.command.specs.Player.{play, is_nil, offence}
 use Rattle.report.specs.Record.{Out, Bad, Good, ◌>>=◌, ◌>>◌, need, reading}
-use Rattle.report.specs.Report.{Trial, Report, read_trials, read_head, read_end, read_report, first_lowest, check_report, Verdict, Accepted, verdict_of, verdict, Refused as RefusedWith}
+use Rattle.report.specs.Report.{Trial, Report, read_trials, read_head, read_end, read_report, first_lowest, same_settings, check_report, Verdict, Accepted, verdict_of, verdict, Refused as RefusedWith}
 use Rattle.report.specs.Claim.{Demand3}
 use Rattle.report.specs.Inner.{HeadIs, BestIs, named_at, WinnerIs}
 use Rattle.report.specs.Verdict.{verdict_in, score_in, settings_in}

@@ -37,7 +37,7 @@ returns c =
     let h = o.before.before.before in
     let s = start h in
     let d : List ℕ = held_by s.args.t s.args.buffer.now in
-    let e = data_error d s.args.payload.now s.args.j (sym p.response_type_lem.ensures ∙ c.if1.true) in
+    let e = data_error d s.args.payload.now s.args.j (sym p.response-type.ensures ∙ c.if1.true) in
     let n : length s.args.joined.now ≡ 1024 = search rules in
     rw e (
       sym (counted h) ∙ ap length (held_bytes h),
@@ -59,7 +59,7 @@ returns-2 c =
     let s = start h in
     let d : List ℕ = held_by s.args.t s.args.buffer.now in
     let b : List ℕ = s.args.payload.now in
-    let e = data_accepted d b s.args.j (λ x. f.if1.false (p.response_type_lem.ensures ∙ x)) in
+    let e = data_accepted d b s.args.j (λ x. f.if1.false (p.response-type.ensures ∙ x)) in
     let n : length s.args.joined.now ≡ 1024 = search rules in
     let k : h.held.result ≡ length d = sym (counted h) ∙ ap length (held_bytes h) in
     rw e (

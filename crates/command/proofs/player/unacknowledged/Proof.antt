@@ -9,5 +9,5 @@ pub unacknowledged_spec : {M : Type 1} → statement M
 unacknowledged_spec =
     tie.close
     (tie.spec (λ c κs. search rules)
-    (λ c. rw (← c.before.response_type_lem.ensures, eq-eqb c.before.response_type_lem.result write_response c.if1.true))
-    (λ c. rw (← c.before.response_type_lem.ensures, ne_eqb c.before.response_type_lem.result write_response c.if1.false)))
+    (λ c. rw (← c.before.response-type.ensures, eq-eqb c.before.response-type.result write_response c.if1.true))
+    (λ c. rw (← c.before.response-type.ensures, ne_eqb c.before.response-type.result write_response c.if1.false)))

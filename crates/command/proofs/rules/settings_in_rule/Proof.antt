@@ -6,9 +6,8 @@ use mathlib.Core.List.{List, [], ◌∷◌}
 use lib.ListN.{get_or}
 use borrow.Author.Rules.{rules}
 use Rattle.packet.proofs.Cases.{bool_cases}
-use Rattle.command.specs.Rules.{mode_fields, pattern_fields, current_fields, colour_fields, setting_fields, input_fields, video_fields, sequence_fields, run_fields, allowed, blocked, settings_in_rule}
+use Rattle.command.specs.Rules.{mode_fields, pattern_fields, current_fields, colour_fields, setting_fields, input_fields, video_fields, sequence_fields, run_fields, allowed, blocked, all_allowed, settings_in_rule}
 use Rattle.command.specs.Settings.{values_of}
-use Rattle.command.specs.Table.{every}
 use Rattle.command.specs.declared.settings.Settings.{Settings}
 use Rattle.command.specs.declared.table.Command.{Command}
 use Rattle.command.specs.declared.table.Command.TheVariants.{DisplayMode, TestPattern, LedCurrent, StaticColour, DisplaySetting, VideoInput, VideoMode, PatternSequence, SequenceRun}
@@ -70,7 +69,7 @@ nine c = meets (eight c.before) (λ w. (w.0.taken, w.2 ∙ ap not w.1.ensures)) 
 
 -- the order in which they are asked, and the table's
 in_order_lem : (s : Settings) → settings_in_rule s ≡ (first 8 s && free s && allowed VideoInput (values_of VideoInput s))
-unfolding settings_in_rule every
+unfolding settings_in_rule all_allowed
 in_order_lem s =
     bool_cases (allowed VideoInput (values_of VideoInput s))
     (λ e. simp (e, and_assoc, and-true))

@@ -10,11 +10,12 @@ use borrow.Author.Tests.{not-true, not_false}
 use lib.ListN.{length, length-take, drop, length-drop}
 use Rattle.packet.specs.Number.{Bytes}
 use Rattle.packet.proofs.NumberLaws.{bytes_at}
-use Rattle.command.specs.Settings.{factory, same_settings}
+use Rattle.command.specs.Settings.{factory}
 use Rattle.command.specs.declared.settings.Settings.{Settings}
 use Rattle.command.specs.Player.{play, offence, end_settings, end_offence, place_of}
 use Rattle.command.proofs.RulesLaws.{kept_factory, in_rule_of}
 use Rattle.command.proofs.PlayerOffences.{earliest-named, stands-there}
+use Rattle.report.specs.Report.{same_settings}
 use Rattle.report.specs.Inner.{HeadIs, HeadAt, BestIs, BestAt, WinnerIs, WinnerAt}
 use Rattle.report.specs.declared.record.Outcome.{Outcome}
 use Rattle.report.proofs.verdict.Laws.{promised-no, promised-yes, head_no, trials_no, winner-no, ship_in, refused_18, refused-19, accepted-with}
