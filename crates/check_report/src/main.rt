@@ -1,5 +1,7 @@
 // Reads a tuning report from standard input and says yes or no, in one line. With the argument
 // `--explain` it also says, on standard error, which packet of the shipping record refusal 18 is about.
+#![tactic(auto)]
+
 mod explain;
 
 ghost use Rattle.std.specs.Prelude.{◌≡◌, length};

@@ -42,11 +42,11 @@ use Rattle.command.specs.declared.transfer.TransferState.{TransferState}
 use Rattle.command.specs.declared.controller.Controller.{Controller}
 use Rattle.command.proofs.table.Laws.{known_code, same_eq}
 use Rattle.command.proofs.value.Laws.{command_from, values_from}
-use Rattle.command.proofs.faults.Laws.{two_true, firstGroup, no-fault}
+use Rattle.command.proofs.faults.Laws.{two_true, firstGroup, no_fault}
 use Rattle.command.proofs.judgement.Laws.{judge_cases}
-use Rattle.command.proofs.judgement.Called.{IsError, exactly-called}
+use Rattle.command.proofs.judgement.Called.{IsError, exactly_called}
 use Rattle.command.proofs.endpoint.Boundary.{follows_played}
-use Rattle.command.proofs.Refusals.{settings_out, receive_refuses, encode-refuses, list-refuses}
+use Rattle.command.proofs.Refusals.{settings_out, receive_refuses, encode_refuses, list_refuses}
 
 -- The bytes of the response.
 
@@ -65,19 +65,19 @@ packet_shows a b cmd1 cmd2 d e h = (
 
 module _ (s : Settings) (p : Arrived) where
   -- a response is an error packet exactly when the judgement is an error
-  pub error-response : (j : Judgement) (codes : List ℕ) → IsError j codes → response s p j ≡ error_packet p codes
+  pub error_response : (j : Judgement) (codes : List ℕ) → IsError j codes → response s p j ≡ error_packet p codes
   unfolding response
-  error-response (Error k) codes h = rw h.lists
-  error-response (Hold c) codes h = absurd (omega (arith, h.type))
-  error-response (Write v) codes h = absurd (omega (arith, h.type))
-  error-response (Read c) codes h = absurd (omega (arith, h.type))
+  error_response (Error k) codes h = rw h.lists
+  error_response (Hold c) codes h = absurd (omega (arith, h.type))
+  error_response (Write v) codes h = absurd (omega (arith, h.type))
+  error_response (Read c) codes h = absurd (omega (arith, h.type))
 
-  pub response-error : (j : Judgement) (codes : List ℕ) → response s p j ≡ error_packet p codes → IsError j codes
+  pub response_error : (j : Judgement) (codes : List ℕ) → response s p j ≡ error_packet p codes → IsError j codes
   unfolding response
-  response-error (Error k) codes h = record { type = refl; lists = (packet_shows error error p.cmd1 p.cmd2 (codes_of k) codes h).1 }
-  response-error (Hold c) codes h = absurd (omega (arith, (packet_shows (response_type (Hold c)) error p.cmd1 p.cmd2 [] codes h).0))
-  response-error (Write v) codes h = absurd (omega (arith, (packet_shows (response_type (Write v)) error p.cmd1 p.cmd2 [] codes h).0))
-  response-error (Read c) codes h = absurd (omega (arith, (packet_shows (response_type (Read c)) error p.cmd1 p.cmd2 (data_of c s) codes h).0))
+  response_error (Error k) codes h = record { type = refl; lists = (packet_shows error error p.cmd1 p.cmd2 (codes_of k) codes h).1 }
+  response_error (Hold c) codes h = absurd (omega (arith, (packet_shows (response_type (Hold c)) error p.cmd1 p.cmd2 [] codes h).0))
+  response_error (Write v) codes h = absurd (omega (arith, (packet_shows (response_type (Write v)) error p.cmd1 p.cmd2 [] codes h).0))
+  response_error (Read c) codes h = absurd (omega (arith, (packet_shows (response_type (Read c)) error p.cmd1 p.cmd2 (data_of c s) codes h).0))
 
 -- what an error packet leaves
 error_leaves : (s : Settings) (j : Judgement) → response_type j ≡ error → settings_after s j ≡ s
@@ -94,25 +94,25 @@ error_closes t p (Read c) h = absurd (omega arith)
 
 -- "A bad packet gets the error packet its faults call for and leaves all settings as they stood."
 module _ (a : State) (q : List ℕ) where
-  packet-called : (codes : List ℕ) → (response a.settings (arrived q) (judged a q) ≡ error_packet (arrived q) codes) ↔ DrawsOn a (arrived q) codes
+  packet_called : (codes : List ℕ) → (response a.settings (arrived q) (judged a q) ≡ error_packet (arrived q) codes) ↔ DrawsOn a (arrived q) codes
   unfolding judged
-  packet-called codes =
+  packet_called codes =
       let j = judge a.settings.mode a.transfer (arrived q) in
-      let e = exactly-called a.settings.mode a.transfer (arrived q) codes in
-      (λ h. e.0 (response-error a.settings (arrived q) j codes h), λ d. error-response a.settings (arrived q) j codes (e.1 d))
+      let e = exactly_called a.settings.mode a.transfer (arrived q) codes in
+      (λ h. e.0 (response_error a.settings (arrived q) j codes h), λ d. error_response a.settings (arrived q) j codes (e.1 d))
 
-  bad-leaves : (codes : List ℕ) → DrawsOn a (arrived q) codes → next a q ≡ from a.settings
+  bad_leaves : (codes : List ℕ) → DrawsOn a (arrived q) codes → next a q ≡ from a.settings
   unfolding next judged
-  bad-leaves codes d =
+  bad_leaves codes d =
       let j = judge a.settings.mode a.transfer (arrived q) in
-      let e = (exactly-called a.settings.mode a.transfer (arrived q) codes).1 d in
+      let e = (exactly_called a.settings.mode a.transfer (arrived q) codes).1 d in
       rw (error_leaves a.settings j e.type, error_closes a.transfer (arrived q) j e.type)
 
 -- What is known of a packet with none of the first group's faults: its type, its flags and the transfer that is open.
 module _ (t : Transfer) (p : Arrived) (none : (n : ℕ) → FirstFault t p n → ⊥) where
   -- it is a write if it is no read
-  write-type : eqb p.type host_read ≡ false → p.type ≡ host_write
-  write-type r =
+  write_type : eqb p.type host_read ≡ false → p.type ≡ host_write
+  write_type r =
       bool_cases (eqb p.type host_write) (λ w. eqb-true p.type host_write w)
       (λ w. absurd (none 0x02 (UnknownType (eqb-false p.type host_write w) (eqb-false p.type host_read r))))
 
@@ -129,15 +129,15 @@ module _ (t : Transfer) (p : Arrived) (none : (n : ℕ) → FirstFault t p n →
       (λ w. absurd (omega (arith, part_type (eqb-false p.flags whole w))))
 
   -- flags that complete no write are 01 or 02
-  part-flags : completes p.flags ≡ false → (p.flags ≡ beginning) ⊎ (p.flags ≡ intermediate)
-  part-flags f =
+  part_flags : completes p.flags ≡ false → (p.flags ≡ beginning) ⊎ (p.flags ≡ intermediate)
+  part_flags f =
       let w = eqb-false p.flags whole (or_left _ _ f) in
       let l = eqb-false p.flags last (or_right (eqb p.flags whole) _ f) in
       bool_cases (eqb p.flags beginning) (λ b. inl (eqb-true p.flags beginning b))
-      (λ b. inr (known-flags w (eqb-false p.flags beginning b) l (λ o. none 0x0B (UnknownFlags o))))
+      (λ b. inr (known_flags w (eqb-false p.flags beginning b) l (λ o. none 0x0B (UnknownFlags o))))
     where
-      known-flags : (p.flags ≡ whole → ⊥) → (p.flags ≡ beginning → ⊥) → (p.flags ≡ last → ⊥) → (last < p.flags → ⊥) → p.flags ≡ intermediate
-      known-flags w b l o = omega arith
+      known_flags : (p.flags ≡ whole → ⊥) → (p.flags ≡ beginning → ⊥) → (p.flags ≡ last → ⊥) → (last < p.flags → ⊥) → p.flags ≡ intermediate
+      known_flags w b l o = omega arith
 
   -- flags 00 or 01 come with no transfer open, 02 or 03 with one for their command
   none_open : Starts p.flags → t ≡ Closed
@@ -147,8 +147,8 @@ module _ (t : Transfer) (p : Arrived) (none : (n : ℕ) → FirstFault t p n →
       go Closed e = e
       go (Opened c d) e = absurd (none 0x0B (StillOpen c d f e))
 
-  open-for : (c : Command) → Names p.cmd1 p.cmd2 c → Continues p.flags → t ≡ Opened c (held t)
-  open-for c k f = go t refl
+  open_for_lem : (c : Command) → Names p.cmd1 p.cmd2 c → Continues p.flags → t ≡ Opened c (held t)
+  open_for_lem c k f = go t refl
     where
       go : (u : Transfer) → t ≡ u → u ≡ Opened c (held u)
       go Closed e = absurd (none 0x0B (NoneOpen f e))
@@ -166,13 +166,13 @@ module _ (a : State) (q : List ℕ) where
       → Accepted a q (response a.settings (arrived q) j)
       (record { settings = settings_after a.settings j; transfer = transfer_after a.transfer (arrived q) j })
 
-  no-error : (k : Codes) → Accepts (Error k)
-  no-error k n = absurd (n (codes_of k) (record { type = refl; lists = refl }))
+  no_error : (k : Codes) → Accepts (Error k)
+  no_error k n = absurd (n (codes_of k) (record { type = refl; lists = refl }))
 
   module _ (c : Command) (k : Names (cmd1_of q) (cmd2_of q) c) (none : (n : ℕ) → FirstFault a.transfer (arrived q) n → ⊥) where
-    accepts-part : completes (flags_of q) ≡ false → Accepts (Hold c)
+    accepts_part : completes (flags_of q) ≡ false → Accepts (Hold c)
     unfolding response
-    accepts-part f _ = go (part-flags a.transfer (arrived q) none f)
+    accepts_part f _ = go (part_flags a.transfer (arrived q) none f)
       where
         write : type_of q ≡ host_write
         write = part_type a.transfer (arrived q) none (eqb-false (flags_of q) whole (or_left _ _ f))
@@ -180,46 +180,46 @@ module _ (a : State) (q : List ℕ) where
         go : (flags_of q ≡ beginning) ⊎ (flags_of q ≡ intermediate)
             → Accepted a q (write_response_to q) (record { settings = a.settings; transfer = Opened c (held a.transfer ++ payload q) })
         go (inl b) = let e = none_open a.transfer (arrived q) none (inr b) in rw (ap (λ (u : Transfer). held u) e) (Opens c write b k e)
-        go (inr i) = Adds c (held a.transfer) write i k (open-for a.transfer (arrived q) none c k (inl i))
+        go (inr i) = Adds c (held a.transfer) write i k (open_for_lem a.transfer (arrived q) none c k (inl i))
 
-    accepts-write : completes (flags_of q) ≡ true → eqb (type_of q) host_read ≡ false
+    accepts_write : completes (flags_of q) ≡ true → eqb (type_of q) host_read ≡ false
         → let v = split_all (layout c) (held a.transfer ++ payload q) in
         length v ≡ length (layout c) → Accepts (Write (value_from c v))
     unfolding response
-    accepts-write f r n _ =
+    accepts_write f r n _ =
         let v = split_all (layout c) (held a.transfer ++ payload q) in
         rw (command_from c v, values_from c v n) (go (two_true (flags_of q) whole last f))
       where
         write : type_of q ≡ host_write
-        write = write-type a.transfer (arrived q) none r
+        write = write_type a.transfer (arrived q) none r
 
         go : Completes (flags_of q)
             → Accepted a q (write_response_to q) (from (store c (split_all (layout c) (held a.transfer ++ payload q)) a.settings))
         go (inl w) = let e = none_open a.transfer (arrived q) none (inl w) in rw (ap (λ (u : Transfer). held u) e) (Stores c write w k e)
-        go (inr l) = CarriesOut c (held a.transfer) write l k (open-for a.transfer (arrived q) none c k (inr l))
+        go (inr l) = CarriesOut c (held a.transfer) write l k (open_for_lem a.transfer (arrived q) none c k (inr l))
 
-    accepts-read : type_of q ≡ host_read → Accepts (Read c)
+    accepts_read : type_of q ≡ host_read → Accepts (Read c)
     unfolding response
-    accepts-read r _ = ReadsOut c r (read_flags a.transfer (arrived q) none r) k
+    accepts_read r _ = ReadsOut c r (read_flags a.transfer (arrived q) none r) k
 
-  good-accepted : ((codes : List ℕ) → DrawsOn a (arrived q) codes → ⊥) → Accepted a q (response a.settings (arrived q) (judged a q)) (next a q)
+  good_accepted : ((codes : List ℕ) → DrawsOn a (arrived q) codes → ⊥) → Accepted a q (response a.settings (arrived q) (judged a q)) (next a q)
   unfolding next judged
-  good-accepted free =
-      judge_cases Accepts a.settings.mode a.transfer (arrived q) (λ _. no-error (firstGroup a.transfer (arrived q)))
+  good_accepted free =
+      judge_cases Accepts a.settings.mode a.transfer (arrived q) (λ _. no_error (firstGroup a.transfer (arrived q)))
       (λ c e h.
       let k : Names (cmd1_of q) (cmd2_of q) c = known_code (cmd1_of q) (cmd2_of q) c e in
       let none : (n : ℕ) → FirstFault a.transfer (arrived q) n → ⊥ =
-      no-fault a.transfer (arrived q) (ap (λ (f : Found). any_fault (faults f a.transfer (arrived q))) e ∙ h) in
+      no_fault a.transfer (arrived q) (ap (λ (f : Found). any_fault (faults f a.transfer (arrived q))) e ∙ h) in
       record {
-        hold = accepts-part c k none;
-        read = λ _ r _. accepts-read c k none (eqb-true (type_of q) host_read r);
-        asked = λ _ _ _. no-error size_fault;
-        size = λ _ _ _. no-error size_fault;
-        value = λ _ _ _ _. no-error (value_fault (wrong_byte c (split_all (layout c) (held a.transfer ++ payload q))));
-        blocks = λ _ _ _ _ _. no-error mode_fault;
-        write = λ f r _ w. accepts-write c k none f r w.full;
+        hold = accepts_part c k none;
+        read = λ _ r _. accepts_read c k none (eqb-true (type_of q) host_read r);
+        asked = λ _ _ _. no_error size_fault;
+        size = λ _ _ _. no_error size_fault;
+        value = λ _ _ _ _. no_error (value_fault (wrong_byte c (split_all (layout c) (held a.transfer ++ payload q))));
+        blocks = λ _ _ _ _ _. no_error mode_fault;
+        write = λ f r _ w. accepts_write c k none f r w.full;
       })
-      (λ codes i. free codes ((exactly-called a.settings.mode a.transfer (arrived q) codes).0 i))
+      (λ codes i. free codes ((exactly_called a.settings.mode a.transfer (arrived q) codes).0 i))
 
 wrong_sum_lem : (q : List ℕ) → ((arrived q).right ≡ false) ↔ (get_or q (6 + payload_length q) 0 ≡ checksum (take (6 + payload_length q) q) → ⊥)
 unfolding right_sum
@@ -252,17 +252,17 @@ module _ (c : Controller) (input out : List ℕ) where
       waits : {P : Type 0} {k : ℕ} → Waits k ≡ Answers n m → P
       waits h = let z : ◌≡◌ {A = ℕ} 0 1 = cc in absurd (omega arith)
 
-  pub answer-length : (n m : ℕ) → (receive_call c input out).answer ≡ Answers n m → m ≡ length (response_in c received)
-  answer-length n m h = same_answer (sym h ∙ ap (λ (x : After). x.answer) (answers_by n m h))
+  pub answer_length : (n m : ℕ) → (receive_call c input out).answer ≡ Answers n m → m ≡ length (response_in c received)
+  answer_length n m h = same_answer (sym h ∙ ap (λ (x : After). x.answer) (answers_by n m h))
     where
       same_answer : {k l : ℕ} → Answers n m ≡ Answers k l → m ≡ l
       same_answer e = cc
 
   -- what a call leaves that completes no packet, and what stands behind the response of one that does
-  left-waiting : (n : ℕ) → (receive_call c input out).answer ≡ Waits n
+  left_waiting : (n : ℕ) → (receive_call c input out).answer ≡ Waits n
       → ((receive_call c input out).output ≡ out) × (state_of (receive_call c input out).controller ≡ state_of c)
   unfolding receive_call
-  left-waiting n =
+  left_waiting n =
       let P : After → Type 0 = λ x. x.answer ≡ Waits n → (x.output ≡ out) × (state_of x.controller ≡ state_of c) in
       cond_cases P (ltb (length out) 64) (λ _ h. refuses h)
       (λ _. cond_cases P (in_rule c) (λ _. cond_cases P received.complete (λ _ h. answers h) (λ _ h. (refl, refl))) (λ _ h. refuses h))
@@ -277,21 +277,21 @@ module _ (c : Controller) (input out : List ℕ) where
   unfolding written
   left_behind n m h =
       let r = response_in c received in
-      rw (answers_by n m h, answer-length n m h) (drop_at r (drop (length r) out) (length r) refl)
+      rw (answers_by n m h, answer_length n m h) (drop_at r (drop (length r) out) (length r) refl)
 
-  error-sent : (n m : ℕ) → (receive_call c input out).answer ≡ Answers n m → type_of (receive_call c input out).output ≡ error → ErrorSent c input out m
+  error_sent : (n m : ℕ) → (receive_call c input out).answer ≡ Answers n m → type_of (receive_call c input out).output ≡ error → ErrorSent c input out m
   unfolding response_in judged_in written response packet_of sealed
-  error-sent n m h b =
+  error_sent n m h b =
       let e = answers_by n m h in
       let j = judged_in c received in
       let type : response_type j ≡ error = rw e at b in
       let bytes : response_in c received ≡ error_packet (arrived_in received) (codes_in j) =
-      error-response c.settings (arrived_in received) j (codes_in j) (record { type = type; lists = refl }) in
+      error_response c.settings (arrived_in received) j (codes_in j) (record { type = type; lists = refl }) in
       record {
         codes = codes_in j;
-        called = (exactly-called (state_of c).settings.mode (state_of c).transfer (arrived_in received) (codes_in j)).0 (record { type = type; lists = refl });
+        called = (exactly_called (state_of c).settings.mode (state_of c).transfer (arrived_in received) (codes_in j)).0 (record { type = type; lists = refl });
         packet = ap (λ (x : After). x.output) e ∙ ap (λ (x : List ℕ). written x out) bytes;
-        size = answer-length n m h ∙ ap length bytes;
+        size = answer_length n m h ∙ ap length bytes;
         settings = ap (λ (x : After). x.controller.settings) e ∙ error_leaves c.settings j type;
         inactive = ap (λ (x : After). x.controller.registers.active) e ∙ error_inactive (transfer_of c.registers) (arrived_in received).body j type;
         closed =
@@ -299,19 +299,19 @@ module _ (c : Controller) (input out : List ℕ) where
             ∙ rw (error_inactive (transfer_of c.registers) (arrived_in received).body j type);
       }
 
-  error-owed : (codes : List ℕ) (n m : ℕ) → (receive_call c input out).answer ≡ Answers n m → DrawsOn (state_of c) (arrived_in received) codes
+  error_owed : (codes : List ℕ) (n m : ℕ) → (receive_call c input out).answer ≡ Answers n m → DrawsOn (state_of c) (arrived_in received) codes
       → take m (receive_call c input out).output ≡ error_packet (arrived_in received) codes
   unfolding written
-  error-owed codes n m h d =
+  error_owed codes n m h d =
       ap (λ (x : After). take m x.output) (answers_by n m h)
-      ∙ take_at (response_in c received) (drop (length (response_in c received)) out) m (sym (answer-length n m h))
+      ∙ take_at (response_in c received) (drop (length (response_in c received)) out) m (sym (answer_length n m h))
       ∙ bytes
     where
       bytes : response_in c received ≡ error_packet (arrived_in received) codes
       bytes =
           unfold response_in judged_in in
-          error-response c.settings (arrived_in received) (judge (state_of c).settings.mode (state_of c).transfer (arrived_in received)) codes
-          ((exactly-called (state_of c).settings.mode (state_of c).transfer (arrived_in received) codes).1 d)
+          error_response c.settings (arrived_in received) (judge (state_of c).settings.mode (state_of c).transfer (arrived_in received)) codes
+          ((exactly_called (state_of c).settings.mode (state_of c).transfer (arrived_in received) codes).1 d)
 
 -- Over whole streams: the settings are the accepted writes alone, stored one after the other.
 store_first : (j : Judgement) (js : List Judgement) (s : Settings) → store_all (accepted_writes (j ∷ js)) s ≡ store_all (accepted_writes js) (settings_after s j)
@@ -330,7 +330,7 @@ stream_stores a (q ∷ qs) = stream_stores (next a q) qs ∙ sym (store_first (j
 bad_stream_lem : {a : State} {qs : List (List ℕ)} → AllBad a qs → (after a qs).settings ≡ a.settings
 unfolding after
 bad_stream_lem NoPacket = refl
-bad_stream_lem {a} (BadPacket {q = q} codes d r) = bad_stream_lem r ∙ ap (λ (x : State). x.settings) (bad-leaves a q codes d)
+bad_stream_lem {a} (BadPacket {q = q} codes d r) = bad_stream_lem r ∙ ap (λ (x : State). x.settings) (bad_leaves a q codes d)
 
 -- so it is on the head to which they are sent
 sent_settings : (c : Controller) (b : List ℕ) (s : Sending b) → Boundary c → (sent_to c s).state.settings ≡ (after (state_of c) (packets b)).settings
@@ -344,18 +344,18 @@ not_played s b h = rw ((settings_out s).1 h) (refl, refl)
 pub demand1 : Demand1
 demand1 =
     record {
-      called = packet-called;
+      called = packet_called;
       wrong_sum = wrong_sum_lem;
-      good = good-accepted;
-      leaves = bad-leaves;
-      sent = error-sent;
-      owed = error-owed;
-      waits = left-waiting;
+      good = good_accepted;
+      leaves = bad_leaves;
+      sent = error_sent;
+      owed = error_owed;
+      waits = left_waiting;
       behind = left_behind;
       stream = λ c b s k. sent_settings c b s k ∙ stream_stores (state_of c) (packets b);
       bad_stream = λ c b s k d. sent_settings c b s k ∙ bad_stream_lem d;
       receive = receive_refuses;
       play = not_played;
-      encode = λ v out. encode-refuses out v;
-      list = λ s out. list-refuses out s;
+      encode = λ v out. encode_refuses out v;
+      list = λ s out. list_refuses out s;
     }

@@ -17,7 +17,7 @@ use Rattle.packet.specs.Writer.{written}
 use Rattle.packet.proofs.Cases.{bool_cases, and_left}
 use Rattle.packet.proofs.StreamLaws.{IsPacket, packets_cons, rest_cons, packets_none, first_packet, packets_nil, rest_nil}
 use Rattle.packet.proofs.ReceiverLaws.{with_nil}
-use Rattle.packet.proofs.WriterLaws.{packet-written}
+use Rattle.packet.proofs.WriterLaws.{packet_written}
 use Rattle.command.specs.Table.{cmd1_for, cmd2_for, same, layout, size_of, readable}
 use Rattle.command.specs.Settings.{factory, values_after, store}
 use Rattle.command.specs.Rules.{allowed, blocked}
@@ -44,12 +44,12 @@ use Rattle.command.specs.declared.controller.Controller.{Controller}
 use Rattle.command.proofs.table.Laws.{each, same_eq, fit_length, size_small}
 use Rattle.command.proofs.rules.Laws.{fit_data, values_store, Writable, kept_factory, in_rule_of}
 use Rattle.command.proofs.data.Laws.{length_join}
-use Rattle.command.proofs.transfer.Laws.{by-transfer}
+use Rattle.command.proofs.transfer.Laws.{by_transfer}
 use Rattle.command.proofs.judgement.Laws.{judge_cases, Sound, sound}
 use Rattle.command.proofs.controller.Laws.{rule_parts, rule_whole}
 use Rattle.command.proofs.endpoint.Laws.{replies_anyhow}
 use Rattle.command.proofs.endpoint.Boundary.{follows_played}
-use Rattle.command.proofs.encoder.Laws.{plain, arrived_plain, judge-plain, write-packet, encoder_judged, accepted_encodes}
+use Rattle.command.proofs.encoder.Laws.{plain, arrived_plain, judge_plain, write_packet_lem, encoder_judged, accepted_encodes}
 
 -- However the byte stream was cut.
 cut_anyhow : (c : Controller) (b : List ℕ) (s t : Sending b) → Ready c → sent_to c s ≡ sent_to c t
@@ -84,7 +84,7 @@ state_closed c i = rw i.closed
 
 none_active : (t : TransferState) (buffer : List ℕ) → transfer_in_rule t ≡ true → transfer_in t buffer ≡ Closed → t.active ≡ 0
 none_active t buffer r e =
-    by-transfer t r (λ a. eqb-true t.active 0 a)
+    by_transfer t r (λ a. eqb-true t.active 0 a)
     (λ c a k.
     let f = sym (rw (a, k) at e) in
     let z : ◌≡◌ {A = ℕ} 0 1 = cc in absurd (omega arith))
@@ -136,19 +136,19 @@ module _ (v : Value) (g : Legal v) where
   full : length (values_in v) ≡ length (layout (command_in v))
   full = fit_length (layout (command_in v)) (values_in v) (fit_data (command_in v) (values_in v) g.values g.fit)
 
-  packet-is : (out : List ℕ) → 64 ≤ length out → packet_by v out ≡ encoded v
+  packet_is : (out : List ℕ) → 64 ≤ length out → packet_by v out ≡ encoded v
   unfolding written
-  packet-is out l =
+  packet_is out l =
       ap (λ (r : Encoding). at_start r.answer r.output) (encodes v out g.values l)
       ∙ take_at (encoded v) (drop (length (encoded v)) out) (length (encoded v)) refl
 
   -- judged, with no transfer open
-  judged-as : (s : Settings) → judged (from s) (encoded v) ≡ cond (blocked (command_in v) (values_in v) s.mode) (Error mode_fault) (Write v)
-  judged-as s = (encoder_judged v s g.fit g.values).1
+  judged_as_lem : (s : Settings) → judged (from s) (encoded v) ≡ cond (blocked (command_in v) (values_in v) s.mode) (Error mode_fault) (Write v)
+  judged_as_lem s = (encoder_judged v s g.fit g.values).1
 
   one_packet_lem : IsPacket (encoded v)
   unfolding encoded data_in
-  one_packet_lem = write-packet (command_in v) (values_in v) g.fit g.values
+  one_packet_lem = write_packet_lem (command_in v) (values_in v) g.fit g.values
 
   arrives : arrived (encoded v) ≡ plain host_write (command_in v) (data_in v)
   unfolding encoded write_packet data_in size_of
@@ -172,30 +172,30 @@ module _ (v : Value) (out : List ℕ) (g : Legal v) (l : 64 ≤ length out) wher
   abbrev p : List ℕ
   p = packet_by v out
 
-  p-is : p ≡ encoded v
-  p-is = packet-is v g out l
+  p_is : p ≡ encoded v
+  p_is = packet_is v g out l
 
-  p-packet : IsPacket p
-  p-packet = subst IsPacket (sym p-is) (one_packet_lem v g)
+  p_packet : IsPacket p
+  p_packet = subst IsPacket (sym p_is) (one_packet_lem v g)
 
-  p-judged : (s : Settings) → judged (from s) p ≡ cond (blocked (command_in v) (values_in v) s.mode) (Error mode_fault) (Write v)
-  p-judged s = ap (judged (from s)) p-is ∙ judged-as v g s
+  p_judged : (s : Settings) → judged (from s) p ≡ cond (blocked (command_in v) (values_in v) s.mode) (Error mode_fault) (Write v)
+  p_judged s = ap (judged (from s)) p_is ∙ judged_as_lem v g s
 
-  p-arrives : arrived p ≡ plain host_write (command_in v) (data_in v)
-  p-arrives = ap arrived p-is ∙ arrives v g
+  p_arrives : arrived p ≡ plain host_write (command_in v) (data_in v)
+  p_arrives = ap arrived p_is ∙ arrives v g
 
-  written-whole : (encode_call v out ≡ writes p out) × (packets p ≡ p ∷ [])
-  written-whole = (encodes v out g.values l ∙ sym (ap (λ (x : List ℕ). writes x out) p-is), (alone p p-packet).0)
+  written_whole : (encode_call v out ≡ writes p out) × (packets p ≡ p ∷ [])
+  written_whole = (encodes v out g.values l ∙ sym (ap (λ (x : List ℕ). writes x out) p_is), (alone p p_packet).0)
 
   acknowledges : (s : Settings) → response s (arrived p) (Write v) ≡ acknowledgement (command_in v)
   unfolding response
-  acknowledges s = ap (λ (q : Arrived). response s q (Write v)) p-arrives ∙ acknowledged_by (command_in v)
+  acknowledges s = ap (λ (q : Arrived). response s q (Write v)) p_arrives ∙ acknowledged_by (command_in v)
 
   module _ (c : Controller) (i : Idle c) where
     read_back : (s : Sending p) → blocked (command_in v) (values_in v) c.settings.mode ≡ false → ReadBack v c p (sent_to c s)
     read_back s b =
-        let w : judged (from c.settings) p ≡ Write v = p-judged c.settings ∙ rw b in
-        let o = once c p s (Write v) i p-packet w refl in
+        let w : judged (from c.settings) p ≡ Write v = p_judged c.settings ∙ rw b in
+        let o = once c p s (Write v) i p_packet w refl in
         record {
           judgement = ap (λ (a : State). judged a p) (state_closed c i) ∙ w;
           given = o.given ∙ ap {B = List (List ℕ)} (λ r. r ∷ []) (acknowledges c.settings);
@@ -203,16 +203,16 @@ module _ (v : Value) (out : List ℕ) (g : Legal v) (l : 64 ≤ length out) wher
           idle = o.idle;
         }
 
-    blocked-back : (s : Sending p) → blocked (command_in v) (values_in v) c.settings.mode ≡ true → Blocked c p (sent_to c s)
+    blocked_back : (s : Sending p) → blocked (command_in v) (values_in v) c.settings.mode ≡ true → Blocked c p (sent_to c s)
     unfolding response
-    blocked-back s b =
-        let w : judged (from c.settings) p ≡ Error mode_fault = p-judged c.settings ∙ rw b in
-        let o = once c p s (Error mode_fault) i p-packet w refl in
+    blocked_back s b =
+        let w : judged (from c.settings) p ≡ Error mode_fault = p_judged c.settings ∙ rw b in
+        let o = once c p s (Error mode_fault) i p_packet w refl in
         record {
           judgement = ap (λ (a : State). judged a p) (state_closed c i) ∙ w;
           given =
               o.given
-              ∙ ap {B = List (List ℕ)} (λ (q : Arrived). response c.settings q (Error mode_fault) ∷ []) p-arrives
+              ∙ ap {B = List (List ℕ)} (λ (q : Arrived). response c.settings q (Error mode_fault) ∷ []) p_arrives
               ∙ ap {B = List (List ℕ)} (λ r. r ∷ []) (blocked_run (command_in v) (values_in v) c.settings.mode b);
           settings = o.settings;
           idle = o.idle;
@@ -224,7 +224,7 @@ module _ (v : Value) (out : List ℕ) (g : Legal v) (l : 64 ≤ length out) wher
 read_answers : (s : Settings) (c : Command) → readable c ≡ true → response s (arrived (read_packet c)) (judged (from s) (read_packet c)) ≡ read_answer c (data_of c s)
 unfolding response judged wrong_command judge_data judge_read
 read_answers s c r =
-    ap (response s (arrived (read_packet c))) (judge-plain host_read c [] (rw r) (omega arith) s.mode)
+    ap (response s (arrived (read_packet c))) (judge_plain host_read c [] (rw r) (omega arith) s.mode)
     ∙ ap (λ (q : Arrived). response s q (Read c)) (arrived_plain host_read c [] (omega arith))
 
 same_refl : (c : Command) → same c c ≡ true
@@ -243,9 +243,9 @@ reads_back v out g l c s i b r =
     let y : Settings = store (command_in v) (values_in v) c.settings in
     let p : List ℕ = packet_by v out in
     let q : List ℕ = read_packet (command_in v) in
-    let k : IsPacket (read_packet (command_in v)) = packet-written host_read (cmd1_for (command_in v)) (cmd2_for (command_in v)) whole [] (omega arith) in
-    let both : packets (p ++ q) ≡ p ∷ q ∷ [] = packets_cons p q (p-packet v out g l) ∙ ap {B = List (List ℕ)} (λ ps. p ∷ ps) (alone q k).0 in
-    let w : judged (from x) p ≡ Write v = p-judged v out g l x ∙ rw b in
+    let k : IsPacket (read_packet (command_in v)) = packet_written host_read (cmd1_for (command_in v)) (cmd2_for (command_in v)) whole [] (omega arith) in
+    let both : packets (p ++ q) ≡ p ∷ q ∷ [] = packets_cons p q (p_packet v out g l) ∙ ap {B = List (List ℕ)} (λ ps. p ∷ ps) (alone q k).0 in
+    let w : judged (from x) p ≡ Write v = p_judged v out g l x ∙ rw b in
     let stored : next (from x) p ≡ from y = rw w in
     (follows_played c (p ++ q) s i.boundary).given
     ∙ ap₂ responses (state_closed c i) both
@@ -332,9 +332,9 @@ demand2 =
     record {
       cut = cut_anyhow;
       follows = follows_played;
-      encoder = written-whole;
+      encoder = written_whole;
       accepted = λ v out g l c s i b. read_back v out g l c i s b;
-      blocks = λ v out g l c s i b. blocked-back v out g l c i s b;
+      blocks = λ v out g l c s i b. blocked_back v out g l c i s b;
       reads = reads_back;
       remade = remakes;
       begins = fresh_idle;

@@ -106,22 +106,22 @@ module _ (out : List ℕ) where
   writing : (b : List ℕ) (n : ℕ) → (encoder.writes b out).answer ≡ encoder.Refuses n → ⊥
   writing b n h = let z : ◌≡◌ {A = ℕ} 0 1 = cc in omega arith
 
-  pub encode-refuses : (v : Value)
+  pub encode_refuses : (v : Value)
       → let r = encode_call v out in
       Answering (λ n. r.answer ≡ encoder.Refuses n) out 64 2 (allowed (command_in v) (values_in v) ≡ false) (r.output ≡ out)
       (r.answer ≡ encoder.Writes (length (encoded v)))
   unfolding encode_call
-  encode-refuses v =
+  encode_refuses v =
       answering (λ (x : encoder.After) n. x.answer ≡ encoder.Refuses n) (λ x. x.output ≡ out) (λ x. x.answer ≡ encoder.Writes (length (encoded v)))
       (encoder.refused 1 out) (encoder.refused 2 out)
       (encoder.writes (encoded v) out) out 64 2 (number 1) (number 2) (writing (encoded v)) (λ h. omega arith) refl refl refl
       (allowed (command_in v) (values_in v)) (λ h. h, λ h. h)
 
-  pub list-refuses : (s : Settings)
+  pub list_refuses : (s : Settings)
       → let r = list_call s out in
       Answering (λ n. r.answer ≡ encoder.Refuses n) out 128 3 (SettingsOutOfRule s) (r.output ≡ out) (r.answer ≡ encoder.Writes (length (standard_list s)))
   unfolding list_call
-  list-refuses s =
+  list_refuses s =
       answering (λ (x : encoder.After) n. x.answer ≡ encoder.Refuses n) (λ x. x.output ≡ out) (λ x. x.answer ≡ encoder.Writes (length (standard_list s)))
       (encoder.refused 1 out) (encoder.refused 3 out)
       (encoder.writes (standard_list s) out) out 128 3 (number 1) (number 3) (writing (standard_list s)) (λ h. omega arith) refl refl refl

@@ -34,7 +34,7 @@ use Rattle.command.specs.declared.settings.PatternSequence.{PatternSequence as S
 use Rattle.command.specs.declared.value.Value.TheVariants as value
 use Rattle.command.specs.declared.controller.Controller.{Controller}
 use Rattle.command.proofs.rules.Laws.{kept_by, Kept}
-use Rattle.command.proofs.judgement.Called.{exactly-called}
+use Rattle.command.proofs.judgement.Called.{exactly_called}
 use Rattle.command.proofs.controller.Laws.{rule_parts}
 use Rattle.command.proofs.endpoint.Laws.{sent_in_rule}
 use Rattle.command.proofs.Refusals.{settings_out}
@@ -86,7 +86,7 @@ draws_value a p q k h =
 pub not_acknowledged_lem : (a : State) (p : List ℕ) (q : Sequence) → Asks a (arrived p) q → TooMany q → acknowledged (judged a p) ≡ false
 unfolding judged
 not_acknowledged_lem a p q k h =
-    rw ((exactly-called a.settings.mode a.transfer (arrived p) (0x03 ∷ [])).1 (draws_value a (arrived p) q k h)).type
+    rw ((exactly_called a.settings.mode a.transfer (arrived p) (0x03 ∷ [])).1 (draws_value a (arrived p) q k h)).type
 
 -- what begins with the error type, of the bytes that are told, does
 told_error : (m : ℕ) (b : List ℕ) → type_of (take m b) ≡ error → type_of b ≡ error

@@ -38,11 +38,11 @@ use Rattle.command.proofs.table.Laws.{each, known_code, same_known}
 use Rattle.command.proofs.rules.Laws.{nothing_wrong}
 use Rattle.command.proofs.faults.Laws.{named as found-named}
 use Rattle.command.proofs.judgement.Laws.{judge_cases}
-use Rattle.command.proofs.judgement.Called.{IsError, exactly-called}
+use Rattle.command.proofs.judgement.Called.{IsError, exactly_called}
 use Rattle.command.proofs.endpoint.Laws.{replies_anyhow}
 use Rattle.command.proofs.endpoint.Boundary.{wrong_played}
-use Rattle.command.proofs.player.Offences.{earliest-named, none_named, stands-there}
-use Rattle.command.proofs.Demand1.{error-response, response-error, answers_by, answer-length}
+use Rattle.command.proofs.player.Offences.{earliest_named, none_named, stands_there}
+use Rattle.command.proofs.Demand1.{error_response, response_error, answers_by, answer_length}
 
 -- The fields of a command.
 
@@ -91,15 +91,15 @@ module _ (v w : List ℕ) where
   )
   alike SequenceRun = (λ h. rw h.0, tt)
 
-  same-value : (k : ℕ) → take k v ≡ take k w → (i : ℕ) → i < k → get_or v i 0 ≡ get_or w i 0
-  same-value k e i h = sym (get_or-take k v i 0 h) ∙ ap (λ (x : List ℕ). get_or x i 0) e ∙ get_or-take k w i 0 h
+  same_value : (k : ℕ) → take k v ≡ take k w → (i : ℕ) → i < k → get_or v i 0 ≡ get_or w i 0
+  same_value k e i h = sym (get_or-take k v i 0 h) ∙ ap (λ (x : List ℕ). get_or x i 0) e ∙ get_or-take k w i 0 h
 
-  alike-first : (c : Command) (k : ℕ) → take k v ≡ take k w → take k (fields_of c v) ≡ take k (fields_of c w)
-  alike-first c k e =
-      alike_take (Same c) k (fields_of c v) (fields_of c w) (alike c) (λ i h. (same-value k e i h, λ _. same-value k e 0 (omega (arith, h))))
+  alike_first : (c : Command) (k : ℕ) → take k v ≡ take k w → take k (fields_of c v) ≡ take k (fields_of c w)
+  alike_first c k e =
+      alike_take (Same c) k (fields_of c v) (fields_of c w) (alike c) (λ i h. (same_value k e i h, λ _. same_value k e 0 (omega (arith, h))))
 
-  alike-own : (c : Command) (i : ℕ) → tied c i ≡ false → get_or v i 0 ≡ get_or w i 0 → field_at c v i ≡ field_at c w i
-  alike-own c i t e = alike_at (Same c) i (fields_of c v) (fields_of c w) (field 0 true) (alike c) (e, λ h. never (sym t ∙ h))
+  alike_own : (c : Command) (i : ℕ) → tied c i ≡ false → get_or v i 0 ≡ get_or w i 0 → field_at c v i ≡ field_at c w i
+  alike_own c i t e = alike_at (Same c) i (fields_of c v) (fields_of c w) (field 0 true) (alike c) (e, λ h. never (sym t ∙ h))
 
 -- The rules of 04 00 as tests: each is what the request says of its field.
 
@@ -112,46 +112,46 @@ module _ (a b n : ℕ) where
   inside : (a ≤ n) × (n ≤ b) → within a b n ≡ true
   inside h = and_both _ _ (le-leb a n h.0) (le-leb n b h.1)
 
-  is-inside : within a b n ≡ true → (a ≤ n) × (n ≤ b)
-  is-inside h = (leb-true a n (and_left _ _ h), leb-true n b (and_right (leb a n) _ h))
+  is_inside : within a b n ≡ true → (a ≤ n) × (n ≤ b)
+  is_inside h = (leb-true a n (and_left _ _ h), leb-true n b (and_right (leb a n) _ h))
 
 module _ (depth : ℕ) where
-  inversion-right : (n : ℕ) → Inversion depth n → (leb n 2 && (eqb n 0 || eqb depth 1)) ≡ true
-  inversion-right n (l, inl z) = and_both _ _ (le-leb n 2 l) (rw z)
-  inversion-right n (l, inr o) = and_both _ _ (le-leb n 2 l) (or_that (eqb n 0) _ (eq-eqb depth 1 o))
+  inversion_right : (n : ℕ) → Inversion depth n → (leb n 2 && (eqb n 0 || eqb depth 1)) ≡ true
+  inversion_right n (l, inl z) = and_both _ _ (le-leb n 2 l) (rw z)
+  inversion_right n (l, inr o) = and_both _ _ (le-leb n 2 l) (or_that (eqb n 0) _ (eq-eqb depth 1 o))
 
-  is-inversion : (n : ℕ) → (leb n 2 && (eqb n 0 || eqb depth 1)) ≡ true → Inversion depth n
-  is-inversion n h = (
+  is_inversion : (n : ℕ) → (leb n 2 && (eqb n 0 || eqb depth 1)) ≡ true → Inversion depth n
+  is_inversion n h = (
     leb-true n 2 (and_left _ _ h),
     or_cases (eqb n 0) (eqb depth 1) (λ z. inl (eqb-true n 0 z)) (λ o. inr (eqb-true depth 1 o)) (and_right (leb n 2) _ h),
   )
 
-  is-trigger : (n : ℕ) → (leb n 6 && (not (eqb n 6) || eqb depth 1)) ≡ true → Trigger depth n
-  is-trigger n h = (
+  is_trigger : (n : ℕ) → (leb n 6 && (not (eqb n 6) || eqb depth 1)) ≡ true → Trigger depth n
+  is_trigger n h = (
     leb-true n 6 (and_left _ _ h),
     or_cases (not (eqb n 6)) (eqb depth 1) (λ z. inl (eqb-false n 6 (not-true _ z))) (λ o. inr (eqb-true depth 1 o)) (and_right (leb n 6) _ h),
   )
 
-  depth-wrong : (others : List ℕ) → (Depth depth → ⊥) → named PatternSequence (depth ∷ others) ≡ some 0
-  depth-wrong others h = rw (fails (within 1 8 depth) (is-inside 1 8 depth) h)
+  depth_wrong : (others : List ℕ) → (Depth depth → ⊥) → named PatternSequence (depth ∷ others) ≡ some 0
+  depth_wrong others h = rw (fails (within 1 8 depth) (is_inside 1 8 depth) h)
 
   module _ (count : ℕ) (d : Depth depth) where
-    count-wrong : (others : List ℕ) → (Count depth count → ⊥) → named PatternSequence (depth ∷ count ∷ others) ≡ some 1
-    count-wrong others h = rw (inside 1 8 depth d, fails (within 1 (most_patterns depth) count) (is-inside 1 (most_patterns depth) count) h)
+    count_wrong : (others : List ℕ) → (Count depth count → ⊥) → named PatternSequence (depth ∷ count ∷ others) ≡ some 1
+    count_wrong others h = rw (inside 1 8 depth d, fails (within 1 (most_patterns depth) count) (is_inside 1 (most_patterns depth) count) h)
 
     module _ (inversion : ℕ) (c : Count depth count) where
-      inversion-wrong : (others : List ℕ) → (Inversion depth inversion → ⊥) → named PatternSequence (depth ∷ count ∷ inversion ∷ others) ≡ some 2
-      inversion-wrong others h =
-          rw (inside 1 8 depth d, inside 1 (most_patterns depth) count c, fails (leb inversion 2 && (eqb inversion 0 || eqb depth 1)) (is-inversion inversion) h)
+      inversion_wrong : (others : List ℕ) → (Inversion depth inversion → ⊥) → named PatternSequence (depth ∷ count ∷ inversion ∷ others) ≡ some 2
+      inversion_wrong others h =
+          rw (inside 1 8 depth d, inside 1 (most_patterns depth) count c, fails (leb inversion 2 && (eqb inversion 0 || eqb depth 1)) (is_inversion inversion) h)
 
-      trigger-wrong : (trigger : ℕ) (others : List ℕ) → Inversion depth inversion → (Trigger depth trigger → ⊥)
+      trigger_wrong : (trigger : ℕ) (others : List ℕ) → Inversion depth inversion → (Trigger depth trigger → ⊥)
           → named PatternSequence (depth ∷ count ∷ inversion ∷ trigger ∷ others) ≡ some 3
-      trigger-wrong trigger others i h =
+      trigger_wrong trigger others i h =
           rw (
             inside 1 8 depth d,
             inside 1 (most_patterns depth) count c,
-            inversion-right inversion i,
-            fails (leb trigger 6 && (not (eqb trigger 6) || eqb depth 1)) (is-trigger trigger) h,
+            inversion_right inversion i,
+            fails (leb trigger 6 && (not (eqb trigger 6) || eqb depth 1)) (is_trigger trigger) h,
           )
 
 -- The byte that is named.
@@ -264,23 +264,23 @@ module _ (mode : ℕ) (t : Transfer) (p : Arrived) where
         write = λ _ _ _ _ e. none_some e;
       })
 
-  named-exactly : (n : ℕ) → (wrong_in (judge mode t p) ≡ some n) ↔ (Draws mode t p (0x03 ∷ []) × NamedIn t p n)
-  named-exactly n = (
+  named_exactly : (n : ℕ) → (wrong_in (judge mode t p) ≡ some n) ↔ (Draws mode t p (0x03 ∷ []) × NamedIn t p n)
+  named_exactly n = (
     λ h.
         let e = naming n h in
         let f = faulty e in (
-          (exactly-called mode t p (0x03 ∷ [])).0 e,
+          (exactly_called mode t p (0x03 ∷ [])).0 e,
           record { command = f.command; names = known_code p.cmd1 p.cmd2 f.command f.names; first = first_named _ n (sym f.wrong ∙ h) },
         ),
     λ h.
-        let f = faulty ((exactly-called mode t p (0x03 ∷ [])).1 h.0) in
+        let f = faulty ((exactly_called mode t p (0x03 ∷ [])).1 h.0) in
         let c : h.1.command ≡ f.command = same_known _ _ (sym (found-named p.cmd1 p.cmd2 h.1.command h.1.names) ∙ f.names) in
         f.wrong ∙ named_first _ n (rw c at h.1.first),
   )
 
   owes : Draws mode t p (0x03 ∷ []) → wrong_in (judge mode t p) ≡ none → ⊥
   owes d h =
-      let f = faulty ((exactly-called mode t p (0x03 ∷ [])).1 d) in
+      let f = faulty ((exactly_called mode t p (0x03 ∷ [])).1 d) in
       never (sym f.fails ∙ (named_none (fields_of f.command _)).0 (sym f.wrong ∙ h))
 
 -- What the receive call reports.
@@ -310,37 +310,37 @@ module _ (c : Controller) (input out : List ℕ) where
         packet =
             ap (λ (x : After). take (length (response_in c (taken_by c input))) x.output) e
             ∙ take_at (response_in c (taken_by c input)) _ (length (response_in c (taken_by c input))) refl
-            ∙ error-response c.settings packet judgement (0x03 ∷ []) i;
+            ∙ error_response c.settings packet judgement (0x03 ∷ []) i;
       }
 
   -- what a call that draws 03 alone has judged
-  judged-03 : Draws03 c input out → Draws c.settings.mode (state_of c).transfer packet (0x03 ∷ [])
+  judged_03 : Draws03 c input out → Draws c.settings.mode (state_of c).transfer packet (0x03 ∷ [])
   unfolding response_in judged_in written
-  judged-03 d =
+  judged_03 d =
       let e = answers_by c input out d.taken d.size d.answer in
-      (exactly-called c.settings.mode (state_of c).transfer packet (0x03 ∷ [])).0
-      (response-error c.settings packet judgement (0x03 ∷ [])
-      (sym (take_at (response_in c (taken_by c input)) _ d.size (sym (answer-length c input out d.taken d.size d.answer)))
+      (exactly_called c.settings.mode (state_of c).transfer packet (0x03 ∷ [])).0
+      (response_error c.settings packet judgement (0x03 ∷ [])
+      (sym (take_at (response_in c (taken_by c input)) _ d.size (sym (answer_length c input out d.taken d.size d.answer)))
       ∙ ap (λ (x : After). take d.size x.output) (sym e)
       ∙ d.packet))
 
-  wrong-03 : receive_call c input out ≡ answered c (taken_by c input) out → (receive_call c input out).wrong ≡ wrong_in judgement
+  wrong_03 : receive_call c input out ≡ answered c (taken_by c input) out → (receive_call c input out).wrong ≡ wrong_in judgement
   unfolding judged_in
-  wrong-03 e = ap (λ (x : After). x.wrong) e
+  wrong_03 e = ap (λ (x : After). x.wrong) e
 
   reported : Draws03 c input out → (receive_call c input out).wrong ≡ none → ⊥
   reported d e =
-      let w = wrong-03 (answers_by c input out d.taken d.size d.answer) in
-      owes c.settings.mode (state_of c).transfer packet (judged-03 d) (sym w ∙ e)
+      let w = wrong_03 (answers_by c input out d.taken d.size d.answer) in
+      owes c.settings.mode (state_of c).transfer packet (judged_03 d) (sym w ∙ e)
 
-  reported-exactly : (n : ℕ) → ((receive_call c input out).wrong ≡ some n) ↔ (Draws03 c input out × NamedIn (state_of c).transfer packet n)
-  reported-exactly n =
-      let x = named-exactly c.settings.mode (state_of c).transfer packet n in (
+  reported_exactly : (n : ℕ) → ((receive_call c input out).wrong ≡ some n) ↔ (Draws03 c input out × NamedIn (state_of c).transfer packet n)
+  reported_exactly n =
+      let x = named_exactly c.settings.mode (state_of c).transfer packet n in (
         λ h.
             let e = reporting n h in
-            let j = sym (wrong-03 e) ∙ h in
+            let j = sym (wrong_03 e) ∙ h in
             (drawn e (naming c.settings.mode (state_of c).transfer packet n j), (x.0 j).1),
-        λ h. wrong-03 (answers_by c input out h.0.taken h.0.size h.0.answer) ∙ x.1 (judged-03 h.0, h.1),
+        λ h. wrong_03 (answers_by c input out h.0.taken h.0.size h.0.answer) ∙ x.1 (judged_03 h.0, h.1),
       )
 
 pub request_4 : Request4
@@ -349,21 +349,21 @@ request_4 =
       fields = λ c v. each (λ c. map (λ f. f.byte) (fields_of c v) ≡ starts_from 0 (layout c)) (refl, refl, refl, refl, refl, refl, refl, refl, refl) c;
       names = λ c v. named_none (fields_of c v);
       first = λ c v n. (first_named (fields_of c v) n, named_first (fields_of c v) n);
-      own = λ c v w i. alike-own v w c i;
-      later = λ c v w k. alike-first v w c k;
+      own = λ c v w i. alike_own v w c i;
+      later = λ c v w k. alike_first v w c k;
       pair = λ x y others h. rw h;
-      depth = depth-wrong;
-      count = λ depth count others d. count-wrong depth count d others;
-      inversion = λ depth count inversion others d c. inversion-wrong depth count d inversion c others;
-      trigger = λ depth count inversion trigger others d c. trigger-wrong depth count d inversion c trigger others;
-      judges = λ a p. unfold judged in named-exactly a.settings.mode a.transfer (arrived p);
+      depth = depth_wrong;
+      count = λ depth count others d. count_wrong depth count d others;
+      inversion = λ depth count inversion others d c. inversion_wrong depth count d inversion c others;
+      trigger = λ depth count inversion trigger others d c. trigger_wrong depth count d inversion c trigger others;
+      judges = λ a p. unfold judged in named_exactly a.settings.mode a.transfer (arrived p);
       owed = λ a p. unfold judged in owes a.settings.mode a.transfer (arrived p);
-      exactly = reported-exactly;
+      exactly = reported_exactly;
       reports = reported;
       streams = wrong_played;
       cut = λ c b s t k. ap (λ (r : Served Controller Reply). map (λ (x : Reply). x.wrong) r.given) (replies_anyhow c b s t k);
       beside = λ s p w x. unfold response codes_of in refl;
-      offends = λ s b n k. rw k (earliest-named s b n);
+      offends = λ s b n k. rw k (earliest_named s b n);
       clean = λ s b k. rw k (none_named s b);
-      stands = stands-there;
+      stands = stands_there;
     }

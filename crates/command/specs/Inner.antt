@@ -84,7 +84,7 @@ pub record Holds (d : Data) (b : List ℕ) : Type 0 where
   pub bytes : contents d ≡ b
   pub room : d.count ≤ 17
 
--- The open transfer by the controller's numbers: those of specs/Transfer by the laws open-is and open-for-is of transfer/Laws.
+-- The open transfer by the controller's numbers: those of specs/Transfer by the laws open-is and open_for_is of transfer/Laws.
 
 abbrev pub is_open_in : TransferState → Bool
 is_open_in t = not (eqb t.active 0)
@@ -94,7 +94,7 @@ abbrev pub open_for_in : Found → TransferState → Bool
 open_for_in Unknown t = false
 open_for_in (Known c) t = is_open_in t && has_code t.cmd1 t.cmd2 c
 
--- the codes of the first group by these numbers: `faults` of a transfer and a packet (law faults-are of transfer/Laws)
+-- the codes of the first group by these numbers: `faults` of a transfer and a packet (law faults_are of transfer/Laws)
 unfoldable pub faults_of : Found → Bool → Bool → ℕ → ℕ → ℕ → ℕ → Bool → Codes
 faults_of c opened ours n type flags size right =
     record {
@@ -112,7 +112,7 @@ faults_of c opened ours n type flags size right =
       wrong = Nothing;
     }
 
--- a place that is known, or else another: the first of the packets that are not acknowledged, known so far (law going-packet of player/Turns)
+-- a place that is known, or else another: the first of the packets that are not acknowledged, known so far (law going_packet of player/Turns)
 abbrev pub or_else : Option ℕ → Option ℕ → Option ℕ
 or_else none o = o
 or_else (some n) o = some n
@@ -149,7 +149,7 @@ any_code k =
 abbrev pub held_by : TransferState → List ℕ → List ℕ
 held_by t buffer = take (held_in t) buffer
 
--- the tests of `drawable` that look at the numbers alone (law drawable-is of carrying/Laws)
+-- the tests of `drawable` that look at the numbers alone (law drawable_is of carrying/Laws)
 abbrev pub ruling_in_rule : Ruling → Bool
 ruling_in_rule n =
     eqb n.wrong no_wrong
@@ -162,7 +162,7 @@ ruling_in_rule n =
 abbrev pub if_write : Judgement → Option Judgement
 if_write j = cond (eqb (acceptance j) writes) (some j) none
 
--- what a record without codes means for a command, its joined data being d, unless no packet draws it: `acceptable` and `accepted_as` (law accepted-is of carrying/Laws)
+-- what a record without codes means for a command, its joined data being d, unless no packet draws it: `acceptable` and `accepted_as` (law accepted_is of carrying/Laws)
 abbrev pub accepted_by : Command → Ruling → List ℕ → Option Judgement
 accepted_by c n d =
     let t = transfer_of_kept n.kept in
@@ -183,7 +183,7 @@ same_numbers t k =
     (eqb t.cmd1 k.cmd1 && eqb t.cmd2 k.cmd2 && eqb t.held k.held)
 
 -- the judgement j of a record is carried out on a controller of these parts, the bytes that it brought standing from the held ones up to `end`: carries of the record where
--- j is what it means (law carries-is of carrying/Laws). Where the joined data end is known but for an error, which brings none.
+-- j is what it means (law carries_is of carrying/Laws). Where the joined data end is known but for an error, which brings none.
 pub record Carries
     (p : Performed)
     (buffer' out' : List ℕ)

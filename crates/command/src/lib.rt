@@ -1,6 +1,7 @@
 // The command endpoint of a projector head, over the crate packet: the nine commands and their rules,
 // how a complete packet is judged, what it changes and the response it draws, and the calls that
 // receive, play and encode packets. Every call answers on every input and controller.
+#![tactic(auto)]
 
 // The commands: the table, the settings, which values are allowed, and a command's data as bytes
 // (data) and as values (value).

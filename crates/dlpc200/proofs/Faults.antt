@@ -60,28 +60,28 @@ module _ (p : List ℕ) where
   abbrev neither : Bool
   neither = not (eqb (cmd1_of p) write) && not (eqb (cmd1_of p) read)
 
-  neither-cmd1 : neither ≡ true → WrongCmd1 p
-  neither-cmd1 h =
+  neither_cmd1 : neither ≡ true → WrongCmd1 p
+  neither_cmd1 h =
       NeitherCmd1 ((not_equal (cmd1_of p) write).0 (and_left _ (not (eqb (cmd1_of p) read)) h))
       ((not_equal (cmd1_of p) read).0 (and_right (not (eqb (cmd1_of p) write)) _ h))
 
-  told-cmd1 : (f : Found) → (arrived p).command ≡ f → wrong_cmd1 f (cmd1_of p) ≡ true → WrongCmd1 p
+  told_cmd1 : (f : Found) → (arrived p).command ≡ f → wrong_cmd1 f (cmd1_of p) ≡ true → WrongCmd1 p
   unfolding wrong_cmd1
-  told-cmd1 Unknown e h = neither-cmd1 h
-  told-cmd1 (Known c) e h =
-      or_cases neither (not (eqb (cmd1_of p) (cmd1_for c))) neither-cmd1 (λ k. OtherCmd1 c ((names_known p c).0 e) ((not_equal (cmd1_of p) (cmd1_for c)).0 k)) h
+  told_cmd1 Unknown e h = neither_cmd1 h
+  told_cmd1 (Known c) e h =
+      or_cases neither (not (eqb (cmd1_of p) (cmd1_for c))) neither_cmd1 (λ k. OtherCmd1 c ((names_known p c).0 e) ((not_equal (cmd1_of p) (cmd1_for c)).0 k)) h
 
-  neither-wrong : (f : Found) → neither ≡ true → wrong_cmd1 f (cmd1_of p) ≡ true
+  neither_wrong : (f : Found) → neither ≡ true → wrong_cmd1 f (cmd1_of p) ≡ true
   unfolding wrong_cmd1
-  neither-wrong Unknown h = h
-  neither-wrong (Known c) h = rw h
+  neither_wrong Unknown h = h
+  neither_wrong (Known c) h = rw h
 
-  cmd1-wrong : (wrong_cmd1 (arrived p).command (cmd1_of p) ≡ true) ↔ WrongCmd1 p
-  cmd1-wrong = (told-cmd1 (arrived p).command refl, back)
+  cmd1_wrong : (wrong_cmd1 (arrived p).command (cmd1_of p) ≡ true) ↔ WrongCmd1 p
+  cmd1_wrong = (told_cmd1 (arrived p).command refl, back)
     where
       back : WrongCmd1 p → wrong_cmd1 (arrived p).command (cmd1_of p) ≡ true
       back (NeitherCmd1 h k) =
-          neither-wrong (arrived p).command (and_both _ _ ((not_equal (cmd1_of p) write).1 h) ((not_equal (cmd1_of p) read).1 k))
+          neither_wrong (arrived p).command (and_both _ _ ((not_equal (cmd1_of p) write).1 h) ((not_equal (cmd1_of p) read).1 k))
       back (OtherCmd1 c n h) =
           ap (λ (f : Found). wrong_cmd1 f (cmd1_of p)) ((names_known p c).1 n)
           ∙ (unfold wrong_cmd1 in or_that neither _ ((not_equal (cmd1_of p) (cmd1_for c)).1 h))
@@ -91,26 +91,26 @@ module _ (p : List ℕ) where
   abbrev n : ℕ
   n = payload_length p
 
-  outside-size : (ltb n 2 || ltb 504 n) ≡ true → WrongSize p
-  outside-size = or_cases (ltb n 2) (ltb 504 n) (λ h. UnderTwo (ltb-true n 2 h)) (λ h. Over504 (ltb-true 504 n h))
+  outside_size : (ltb n 2 || ltb 504 n) ≡ true → WrongSize p
+  outside_size = or_cases (ltb n 2) (ltb 504 n) (λ h. UnderTwo (ltb-true n 2 h)) (λ h. Over504 (ltb-true 504 n h))
 
-  told-size : (f : Found) → (arrived p).command ≡ f → wrong_size f n ≡ true → WrongSize p
+  told_size : (f : Found) → (arrived p).command ≡ f → wrong_size f n ≡ true → WrongSize p
   unfolding wrong_size
-  told-size Unknown e h = outside-size h
-  told-size (Known c) e h =
-      or_cases (ltb n 2 || ltb 504 n) (not (eqb n (size_for c))) outside-size (λ k. OtherSize c ((names_known p c).0 e) ((not_equal n (size_for c)).0 k)) h
+  told_size Unknown e h = outside_size h
+  told_size (Known c) e h =
+      or_cases (ltb n 2 || ltb 504 n) (not (eqb n (size_for c))) outside_size (λ k. OtherSize c ((names_known p c).0 e) ((not_equal n (size_for c)).0 k)) h
 
-  outside-wrong : (f : Found) → (ltb n 2 || ltb 504 n) ≡ true → wrong_size f n ≡ true
+  outside_wrong : (f : Found) → (ltb n 2 || ltb 504 n) ≡ true → wrong_size f n ≡ true
   unfolding wrong_size
-  outside-wrong Unknown h = h
-  outside-wrong (Known c) h = rw h
+  outside_wrong Unknown h = h
+  outside_wrong (Known c) h = rw h
 
-  size-wrong : (wrong_size (arrived p).command n ≡ true) ↔ WrongSize p
-  size-wrong = (told-size (arrived p).command refl, back)
+  size_wrong : (wrong_size (arrived p).command n ≡ true) ↔ WrongSize p
+  size_wrong = (told_size (arrived p).command refl, back)
     where
       back : WrongSize p → wrong_size (arrived p).command n ≡ true
-      back (UnderTwo h) = outside-wrong (arrived p).command (rw (lt-ltb n 2 h))
-      back (Over504 h) = outside-wrong (arrived p).command (or_that (ltb n 2) (ltb 504 n) (lt-ltb 504 n h))
+      back (UnderTwo h) = outside_wrong (arrived p).command (rw (lt-ltb n 2 h))
+      back (Over504 h) = outside_wrong (arrived p).command (or_that (ltb n 2) (ltb 504 n) (lt-ltb 504 n h))
       back (OtherSize c k h) =
           ap (λ (f : Found). wrong_size f n) ((names_known p c).1 k)
           ∙ (unfold wrong_size in or_that (ltb n 2 || ltb 504 n) _ ((not_equal n (size_for c)).1 h))
@@ -122,10 +122,10 @@ unfolding faults_of right_sum
 faults_hold p =
     record {
       checksum = not_equal (get_or p (6 + payload_length p) 0) (checksum (take (6 + payload_length p) p));
-      cmd1 = cmd1-wrong p;
+      cmd1 = cmd1_wrong p;
       cmd2 = not_equal (cmd2_of p) extended;
       cmd4 = not_equal (cmd4_of p) only;
-      size = size-wrong p;
+      size = size_wrong p;
     }
 
 abbrev faults_in : Bool → Bool → Bool → Bool → Bool → Faults
@@ -162,38 +162,38 @@ module _ (p : List ℕ) where
   abbrev found : Faults
   found = faults_of (arrived p)
 
-  failed-unknown : (f : Faults) (k : Found) → (arrived p).command ≡ k → any_fault found ≡ false → judge_command k ≡ Failed f → FaultsHold p f × Fails p f
-  failed-unknown f Unknown e n h =
+  failed_unknown : (f : Faults) (k : Found) → (arrived p).command ≡ k → any_fault found ≡ false → judge_command k ≡ Failed f → FaultsHold p f × Fails p f
+  failed_unknown f Unknown e n h =
       let k : no_faults ≡ f = cc in (subst (FaultsHold p) (no_faults_lem found n ∙ k) (faults_hold p), UnknownCommand (unnamed p e))
-  failed-unknown f (Known c) e n h = let z : ◌≡◌ {A = ℕ} 0 1 = cc in absurd (omega arith)
+  failed_unknown f (Known c) e n h = let z : ◌≡◌ {A = ℕ} 0 1 = cc in absurd (omega arith)
 
-  fails-with : (f : Faults) → f ≡ found → Fails p f → judge (arrived p) ≡ Failed f
-  fails-with f e (HasFault h) = fails (arrived p) (sym (ap any_fault e) ∙ h) ∙ ap Failed (sym e)
-  fails-with f e (UnknownCommand u) =
+  fails_with : (f : Faults) → f ≡ found → Fails p f → judge (arrived p) ≡ Failed f
+  fails_with f e (HasFault h) = fails (arrived p) (sym (ap any_fault e) ∙ h) ∙ ap Failed (sym e)
+  fails_with f e (UnknownCommand u) =
       bool_cases (any_fault found)
       (λ h. fails (arrived p) h ∙ ap Failed (sym e))
       (λ h. unknown_alone (arrived p) h (unknown p (arrived p).command refl u) ∙ ap Failed (sym (e ∙ no_faults_lem found h)))
 
-  pub failed-exactly : (f : Faults) → (judged p ≡ Failed f) ↔ (FaultsHold p f × Fails p f)
+  pub failed_exactly : (f : Faults) → (judged p ≡ Failed f) ↔ (FaultsHold p f × Fails p f)
   unfolding judged
-  failed-exactly f = (forth, λ h. fails-with f (hold_same p f h.0) h.1)
+  failed_exactly f = (forth, λ h. fails_with f (hold_same p f h.0) h.1)
     where
       forth : judge (arrived p) ≡ Failed f → FaultsHold p f × Fails p f
       forth =
           unfold judge in
           cond_cases (λ (j : Judgement). j ≡ Failed f → FaultsHold p f × Fails p f) (any_fault found)
           (λ n h. let k : found ≡ f = cc in (subst (FaultsHold p) k (faults_hold p), HasFault (sym (ap any_fault k) ∙ n)))
-          (λ n h. failed-unknown f (arrived p).command refl n h)
+          (λ n h. failed_unknown f (arrived p).command refl n h)
 
-  done-with : (c : Command) → Names p c → FaultsHold p no_faults → judge (arrived p) ≡ Done c
+  done_with : (c : Command) → Names p c → FaultsHold p no_faults → judge (arrived p) ≡ Done c
   unfolding judge
-  done-with c n h =
+  done_with c n h =
       let e : any_fault found ≡ false = sym (ap any_fault (hold_same p no_faults h)) in
       rw e (ap judge_command ((names_known p c).1 n))
 
-  pub done-exactly : (c : Command) → (judged p ≡ Done c) ↔ (Names p c × FaultsHold p no_faults)
+  pub done_exactly : (c : Command) → (judged p ≡ Done c) ↔ (Names p c × FaultsHold p no_faults)
   unfolding judged
-  done-exactly c = (forth, λ h. done-with c h.0 h.1)
+  done_exactly c = (forth, λ h. done_with c h.0 h.1)
     where
       forth : judge (arrived p) ≡ Done c → Names p c × FaultsHold p no_faults
       forth h =

@@ -5,7 +5,7 @@ use Rattle.packet.specs.Receiver.{Received}
 use Rattle.packet.specs.Stream.{packets}
 use Rattle.packet.specs.Writer.{written}
 use Rattle.packet.proofs.Cases.{bool_cases, cond_cases}
-use Rattle.packet.proofs.Calls.{sent-same}
+use Rattle.packet.proofs.Calls.{sent_same}
 use Rattle.packet.proofs.StreamLaws.{IsPacket, packets_nil, packets_cons}
 use Rattle.dlpc200.specs.Packet.{read_resp, packet_of}
 use Rattle.dlpc200.specs.States.{park_after, in_range}
@@ -22,7 +22,7 @@ use Rattle.dlpc200.specs.declared.states.States.{States}
 use Rattle.dlpc200.specs.declared.device.Device.{Device}
 use Rattle.dlpc200.proofs.Playing.{failed_leaves, all_failed_leave, failed_answer, done_answer, faults_counted, others_stay, reads_leave, read_after}
 use Rattle.dlpc200.proofs.judgement.Laws.{cmd3_not_judged}
-use Rattle.dlpc200.proofs.Faults.{hold_same, failed-exactly, done-exactly}
+use Rattle.dlpc200.proofs.Faults.{hold_same, failed_exactly, done_exactly}
 use Rattle.dlpc200.proofs.response.Laws.{response_whole, response_length, response_front}
 use Rattle.dlpc200.proofs.Refusals.{states_out, receive_refuses}
 use Rattle.dlpc200.proofs.endpoint.Laws.{rule_by, sum_begins, any_output}
@@ -58,10 +58,10 @@ module _ (d : Device) (input out : List ℕ) where
   abbrev received : Received
   received = receiving d input
 
-  left-waiting : (n : ℕ) → (receive_call d input out).answer ≡ Waits n
+  left_waiting : (n : ℕ) → (receive_call d input out).answer ≡ Waits n
       → ((receive_call d input out).output ≡ out) × ((receive_call d input out).device.states ≡ d.states)
   unfolding receive_call
-  left-waiting n =
+  left_waiting n =
       let P : After → Type 0 = λ x. x.answer ≡ Waits n → (x.output ≡ out) × (x.device.states ≡ d.states) in
       cond_cases P (ltb (length out) 64) (λ _ h. refuses h)
       (λ _. cond_cases P (in_rule d) (λ _. cond_cases P received.complete (λ _ h. answers h) (λ _ h. (refl, refl))) (λ _ h. refuses h))
@@ -72,9 +72,9 @@ module _ (d : Device) (input out : List ℕ) where
       answers : {P : Type 0} {k m : ℕ} → Answers k m ≡ Waits n → P
       answers h = let z : ◌≡◌ {A = ℕ} 0 1 = cc in absurd (omega arith)
 
-  others-kept : OthersStay d.states (receive_call d input out).device.states
+  others_kept : OthersStay d.states (receive_call d input out).device.states
   unfolding receive_call
-  others-kept =
+  others_kept =
       let P : After → Type 0 = λ x. OthersStay d.states x.device.states in
       let same : OthersStay d.states d.states = record { sequence = refl; eeprom = refl; flash = refl; lit = refl } in
       cond_cases P (ltb (length out) 64) (λ _. same)
@@ -93,38 +93,38 @@ module _ (d : Device) (input out : List ℕ) where
       waits : {P : Type 0} {k : ℕ} → Waits k ≡ Answers n m → P
       waits h = let z : ◌≡◌ {A = ℕ} 0 1 = cc in absurd (omega arith)
 
-  answer-length : (n m : ℕ) → (receive_call d input out).answer ≡ Answers n m → m ≡ length (response_in d.states received)
-  answer-length n m h = same_answer (sym h ∙ ap (λ (x : After). x.answer) (answers_by n m h))
+  answer_length : (n m : ℕ) → (receive_call d input out).answer ≡ Answers n m → m ≡ length (response_in d.states received)
+  answer_length n m h = same_answer (sym h ∙ ap (λ (x : After). x.answer) (answers_by n m h))
     where
       same_answer : {k l : ℕ} → Answers n m ≡ Answers k l → m ≡ l
       same_answer e = cc
 
-  response-written : (n m : ℕ) → (receive_call d input out).answer ≡ Answers n m
+  response_written : (n m : ℕ) → (receive_call d input out).answer ≡ Answers n m
       → (take m (receive_call d input out).output ≡ response_in d.states received) × (drop m (receive_call d input out).output ≡ drop m out)
   unfolding written
-  response-written n m h =
+  response_written n m h =
       let r = response_in d.states received in
-      rw (answers_by n m h, answer-length n m h)
+      rw (answers_by n m h, answer_length n m h)
       (take_at r (drop (length r) out) (length r) refl, drop_at r (drop (length r) out) (length r) refl)
 
-  response-sized : (n m : ℕ) → (receive_call d input out).answer ≡ Answers n m → (m ≡ 9) ⊎ (m ≡ 10)
+  response_sized : (n m : ℕ) → (receive_call d input out).answer ≡ Answers n m → (m ≡ 9) ⊎ (m ≡ 10)
   unfolding response_in response
-  response-sized n m h =
-      subst (λ (k : ℕ). (k ≡ 9) ⊎ (k ≡ 10)) (sym (answer-length n m h))
+  response_sized n m h =
+      subst (λ (k : ℕ). (k ≡ 9) ⊎ (k ≡ 10)) (sym (answer_length n m h))
       (response_length d.states (response_type (arrived_in received).cmd1) (judged_in received))
 
 pub request_1 : Request1
 request_1 =
     record {
       follows = follows_sent;
-      cut = sent-same serves Ready 64 any_output;
+      cut = sent_same serves Ready 64 any_output;
       cmd3 = cmd3_not_judged;
-      failed = failed-exactly;
-      done = done-exactly;
+      failed = failed_exactly;
+      done = done_exactly;
       leaves = failed_leaves;
       bad_stream = λ d b s z h. (follows_sent d b s z).ends ∙ all_failed_leave d.states (packets b) h;
       status = failed_answer;
-      alone = λ s p u h. failed_answer s p no_faults ((failed-exactly p no_faults).1 (h, UnknownCommand u));
+      alone = λ s p u h. failed_answer s p no_faults ((failed_exactly p no_faults).1 (h, UnknownCommand u));
       answers = done_answer;
       front = response_front;
       whole = λ s p. let w = response_whole s p in (one_packet_lem (answer_to s p) w.packet, w.right);
@@ -132,12 +132,12 @@ request_1 =
       parked = told ParkDmd 1 (λ n. refl);
       unparked = told UnparkDmd 0 (λ n. refl);
       others = λ s p. unfold next in others_stay s (judged p);
-      kept = others-kept;
+      kept = others_kept;
       reads = reads_leave;
       begins = begins_so;
       sum = sum_begins;
-      waits = left-waiting;
-      behind = response-written;
-      sized = response-sized;
+      waits = left_waiting;
+      behind = response_written;
+      sized = response_sized;
       refuses = receive_refuses;
     }

@@ -25,7 +25,7 @@ arrived_of c header right =
       command = c;
     }
 
--- the packet of a header and its first data bytes, as `judge` is handed them: `arrived_in_lem`, `same-arrived` (proofs/endpoint/Following.antt) say that it is the packet
+-- the packet of a header and its first data bytes, as `judge` is handed them: `arrived_in_lem`, `same_arrived` (proofs/endpoint/Following.antt) say that it is the packet
 -- complete in a receiver, and that of a packet's bytes
 abbrev pub arrived_by : List ℕ → List ℕ → Bool → Arrived
 arrived_by header d right = arrived_of (command_in (payload_length header) d) header right

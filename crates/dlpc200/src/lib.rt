@@ -10,6 +10,8 @@
 //   device     the current packet and the states; taking packets from a stream
 //   endpoint   the receive call
 //   exports    the calls for C and Rust
+#![tactic(auto)]
+
 mod device;
 mod endpoint;
 mod exports;

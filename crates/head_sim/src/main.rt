@@ -2,6 +2,8 @@
 // until the input ends. Each packet is answered as soon as it is complete; one that the input leaves
 // unfinished is not answered. Which data byte is wrong where a packet draws code 03 is said on standard
 // error. It stops when the output is closed or a read fails.
+#![tactic(auto)]
+
 ghost use Rattle.std.specs.Prelude.{◌≤◌, length};
 
 use command::{Controller, WrongByte};

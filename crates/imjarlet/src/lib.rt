@@ -6,6 +6,8 @@
 //   asking    what a packet would draw, and carrying out a judgement, over what the caller lends
 //   encoder   the encoder and the standard shipping list
 //   verdict   the answer to a tuning report
+#![tactic(auto)]
+
 mod asking;
 mod encoder;
 mod endpoint;

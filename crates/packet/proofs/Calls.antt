@@ -40,18 +40,18 @@ module _ {S E : Type 0} (call : S → List ℕ → Call S E) (I : S → Type 0) 
   no_bytes (suc n) s i = ap (λ (t : Call S E). first t (calls_on call n (call s []).state (drop (call s []).taken []))) (laws.empty s i)
 
   -- more calls than bytes change nothing
-  pub same-calls : (m n : ℕ) (s : S) (b : List ℕ) → I s → length b ≤ m → length b ≤ n → calls_on call m s b ≡ calls_on call n s b
+  pub same_calls : (m n : ℕ) (s : S) (b : List ℕ) → I s → length b ≤ m → length b ≤ n → calls_on call m s b ≡ calls_on call n s b
   unfolding calls_on
-  same-calls zero n s [] i hm hn = sym (no_bytes n s i)
-  same-calls zero n s (x ∷ b) i hm hn = absurd (omega arith)
-  same-calls (suc m) zero s [] i hm hn = no_bytes (suc m) s i
-  same-calls (suc m) zero s (x ∷ b) i hm hn = absurd (omega arith)
-  same-calls (suc m) (suc n) s b i hm hn =
+  same_calls zero n s [] i hm hn = sym (no_bytes n s i)
+  same_calls zero n s (x ∷ b) i hm hn = absurd (omega arith)
+  same_calls (suc m) zero s [] i hm hn = no_bytes (suc m) s i
+  same_calls (suc m) zero s (x ∷ b) i hm hn = absurd (omega arith)
+  same_calls (suc m) (suc n) s b i hm hn =
       option_cases (call s b).gives
       (λ g. ends (call s b) (calls_on call m (call s b).state (drop (call s b).taken b)) (calls_on call n (call s b).state (drop (call s b).taken b)) g)
       (λ e g.
       ap (first (call s b))
-      (same-calls m n (call s b).state (drop (call s b).taken b) (laws.keeps s b i) (shorter s b e m i g hm) (shorter s b e n i g hn)))
+      (same_calls m n (call s b).state (drop (call s b).taken b) (laws.keeps s b i) (shorter s b e m i g hm) (shorter s b e n i g hn)))
 
   -- two runs of calls, one after the other
   abbrev followed : Served S E → Served S E → Served S E
@@ -73,21 +73,21 @@ module _ {S E : Type 0} (call : S → List ℕ → Call S E) (I : S → Type 0) 
       ap (calls_on call (length (a ++ b)) t.state) (drop-append-add a b t.taken) in
       ap (λ (c : Call S E). first c (calls_on call (length (a ++ b)) c.state (drop c.taken (a ++ b)))) (laws.cut s a b i g)
       ∙ ap (first t) more
-      ∙ same-calls (suc (length (a ++ b))) (suc (length b)) s' b i' (omega (arith, length-append a b)) (omega arith)
+      ∙ same_calls (suc (length (a ++ b))) (suc (length b)) s' b i' (omega (arith, length-append a b)) (omega arith)
 
-  join-none : (n : ℕ) (s : S) (a b : List ℕ) → I s → (call s a).gives ≡ none → joins (suc n) s a b
+  join_none : (n : ℕ) (s : S) (a b : List ℕ) → I s → (call s a).gives ≡ none → joins (suc n) s a b
   unfolding served_one calls_on joins
-  join-none n s a b i g =
+  join_none n s a b i g =
       let one : calls_on call (suc n) s a ≡ record { given = []; state = (call s a).state } =
       ap (λ o. and_then o (call s a).state (calls_on call n (call s a).state (drop (call s a).taken a))) g in
       goes_on s a b i g ∙ sym (ap (λ (r : Served S E). followed r (calls_on call (suc (length b)) r.state b)) one)
 
-  join-calls : (n : ℕ) (s : S) (a b : List ℕ) → I s → length a < n → joins n s a b
+  join_calls : (n : ℕ) (s : S) (a b : List ℕ) → I s → length a < n → joins n s a b
   unfolding calls_on joins
-  join-calls zero s a b i l = absurd (omega arith)
-  join-calls (suc n) s a b i l =
+  join_calls zero s a b i l = absurd (omega arith)
+  join_calls (suc n) s a b i l =
       option_cases (call s a).gives
-      (λ g. join-none n s a b i g)
+      (λ g. join_none n s a b i g)
       (λ e g.
       let s' : S = (call s a).state in
       let k : ℕ = (call s a).taken in
@@ -97,22 +97,22 @@ module _ {S E : Type 0} (call : S → List ℕ → Call S E) (I : S → Type 0) 
       let ld : length (drop k a) + k ≡ length a = simp length-drop (omega arith) in
       let rest : calls_on call (length (a ++ b)) s' (drop k (a ++ b)) ≡ calls_on call (suc (length (drop k a ++ b))) s' (drop k a ++ b) =
       ap (calls_on call (length (a ++ b)) s') (drop-append-le k a b mk)
-      ∙ same-calls (length (a ++ b)) (suc (length (drop k a ++ b))) s' (drop k a ++ b) i'
+      ∙ same_calls (length (a ++ b)) (suc (length (drop k a ++ b))) s' (drop k a ++ b) i'
       (omega (arith, length-append a b, length-append (drop k a) b)) (omega arith) in
       let one : calls_on call (suc n) s a ≡ record { given = e ∷ (calls_on call n s' (drop k a)).given; state = (calls_on call n s' (drop k a)).state } =
       ap (λ o. and_then o s' (calls_on call n s' (drop k a))) g in
       ap (λ (c : Call S E). first c (calls_on call (length (a ++ b)) c.state (drop c.taken (a ++ b)))) (laws.behind s a b e i g)
       ∙ ap (λ o. and_then o s' (calls_on call (length (a ++ b)) s' (drop k (a ++ b)))) g
-      ∙ ap (λ (r : Served S E). and_then (some e) s' r) (rest ∙ join-calls n s' (drop k a) b i' (omega arith))
+      ∙ ap (λ (r : Served S E). and_then (some e) s' r) (rest ∙ join_calls n s' (drop k a) b i' (omega arith))
       ∙ sym (ap (λ (r : Served S E). followed r (calls_on call (suc (length b)) r.state b)) one))
 
   -- what each call keeps, some calls keep
-  pub keeps-calls : (n : ℕ) (s : S) (b : List ℕ) → I s → I (calls_on call n s b).state
+  pub keeps_calls : (n : ℕ) (s : S) (b : List ℕ) → I s → I (calls_on call n s b).state
   unfolding calls_on
-  keeps-calls zero s b i = i
-  keeps-calls (suc n) s b i =
+  keeps_calls zero s b i = i
+  keeps_calls (suc n) s b i =
       go (call s b).gives (call s b).state (calls_on call n (call s b).state (drop (call s b).taken b)) (laws.keeps s b i)
-      (keeps-calls n (call s b).state (drop (call s b).taken b) (laws.keeps s b i))
+      (keeps_calls n (call s b).state (drop (call s b).taken b) (laws.keeps s b i))
     where
       go : (o : Option E) (s : S) (r : Served S E) → I s → I r.state → I (and_then o s r).state
       go none s r i j = i
@@ -123,8 +123,8 @@ module _ {S E : Type 0} (call : S → List ℕ → Call S E) (I : S → Type 0) 
   unfolding served served_one joined joins
   in_pieces s [] i = sym (no_bytes 1 s i)
   in_pieces s (b ∷ bs) i =
-      ap (followed (calls_on call (suc (length b)) s b)) (in_pieces (calls_on call (suc (length b)) s b).state bs (keeps-calls (suc (length b)) s b i))
-      ∙ sym (join-calls (suc (length b)) s b (joined bs) i (omega arith))
+      ap (followed (calls_on call (suc (length b)) s b)) (in_pieces (calls_on call (suc (length b)) s b).state bs (keeps_calls (suc (length b)) s b i))
+      ∙ sym (join_calls (suc (length b)) s b (joined bs) i (omega arith))
 
 -- Calls with an output each are as good as calls with one, where a call shows the same with every output that is long enough.
 pub record AnyOutput {S E : Type 0} (call : List ℕ → S → List ℕ → Call S E) (I : S → Type 0) (shortest : ℕ) : Type 0 where
@@ -136,45 +136,45 @@ module _ {S E : Type 0} (call : List ℕ → S → List ℕ → Call S E) (I : S
   abbrev uncounted : Served (Counted S) E → Served S E
   uncounted r = record { given = r.given; state = r.state.state }
 
-  uncounted-then : (o : Option E) (c : Counted S) (r : Served (Counted S) E) → uncounted (and_then o c r) ≡ and_then o c.state (uncounted r)
-  uncounted-then none c r = refl
-  uncounted-then (some e) c r = refl
+  uncounted_then : (o : Option E) (c : Counted S) (r : Served (Counted S) E) → uncounted (and_then o c r) ≡ and_then o c.state (uncounted r)
+  uncounted_then none c r = refl
+  uncounted_then (some e) c r = refl
 
   module _ (outs : ℕ → List ℕ) (room : (i : ℕ) → shortest ≤ length (outs i)) (out : List ℕ) (l : shortest ≤ length out) where
-    lent-keeps : (c : Counted S) (b : List ℕ) → I c.state → I (lent call outs c b).state.state
-    lent-keeps c b i = (laws.streams (outs c.calls) (room c.calls)).keeps c.state b i
+    lent_keeps : (c : Counted S) (b : List ℕ) → I c.state → I (lent call outs c b).state.state
+    lent_keeps c b i = (laws.streams (outs c.calls) (room c.calls)).keeps c.state b i
 
-    same-on : (n : ℕ) (c : Counted S) (b : List ℕ) → I c.state → uncounted (calls_on (lent call outs) n c b) ≡ calls_on (call out) n c.state b
+    same_on : (n : ℕ) (c : Counted S) (b : List ℕ) → I c.state → uncounted (calls_on (lent call outs) n c b) ≡ calls_on (call out) n c.state b
     unfolding calls_on
-    same-on zero c b i = refl
-    same-on (suc n) c b i =
+    same_on zero c b i = refl
+    same_on (suc n) c b i =
         let t = lent call outs c b in
-        uncounted-then t.gives t.state (calls_on (lent call outs) n t.state (drop t.taken b))
-        ∙ ap (and_then t.gives t.state.state) (same-on n t.state (drop t.taken b) (lent-keeps c b i))
+        uncounted_then t.gives t.state (calls_on (lent call outs) n t.state (drop t.taken b))
+        ∙ ap (and_then t.gives t.state.state) (same_on n t.state (drop t.taken b) (lent_keeps c b i))
         ∙ ap (λ (x : Call S E). and_then x.gives x.state (calls_on (call out) n x.state (drop x.taken b)))
         (laws.same (outs c.calls) out c.state b (room c.calls) l i)
 
     kept_on : (n : ℕ) (c : Counted S) (b : List ℕ) → I c.state → I (calls_on (lent call outs) n c b).state.state
     kept_on n c b i =
-        subst I (sym (ap (λ (r : Served S E). r.state) (same-on n c b i))) (keeps-calls (call out) I (laws.streams out l) n c.state b i)
+        subst I (sym (ap (λ (r : Served S E). r.state) (same_on n c b i))) (keeps_calls (call out) I (laws.streams out l) n c.state b i)
 
-    same-served : (c : Counted S) (bs : List (List ℕ)) → I c.state → uncounted (served (lent call outs) c bs) ≡ served (call out) c.state bs
+    same_served : (c : Counted S) (bs : List (List ℕ)) → I c.state → uncounted (served (lent call outs) c bs) ≡ served (call out) c.state bs
     unfolding served served_one
-    same-served c [] i = refl
-    same-served c (b ∷ bs) i =
+    same_served c [] i = refl
+    same_served c (b ∷ bs) i =
         let n = suc (length b) in
         let x = calls_on (lent call outs) n c b in
-        ap (λ (y : Served S E). record { given = x.given ++ y.given; state = y.state }) (same-served x.state bs (kept_on n c b i))
+        ap (λ (y : Served S E). record { given = x.given ++ y.given; state = y.state }) (same_served x.state bs (kept_on n c b i))
         ∙ ap (λ (y : Served S E). record { given = y.given ++ (served (call out) y.state bs).given; state = (served (call out) y.state bs).state })
-        (same-on n c b i)
+        (same_on n c b i)
 
   -- However the byte stream was cut, and whatever outputs were lent, it is as if it came at once.
   pub at_once : (out : List ℕ) → shortest ≤ length out → (s : S) (b : List ℕ) (w : Sending shortest b) → I s → sent call s w ≡ served_one (call out) s b
   at_once out l s b w i =
-      same-served w.outs w.room out l (record { calls = 0; state = s }) w.pieces i
+      same_served w.outs w.room out l (record { calls = 0; state = s }) w.pieces i
       ∙ in_pieces (call out) I (laws.streams out l) s w.pieces i
       ∙ ap (served_one (call out) s) w.bytes
 
   -- so that every way of sending the same bytes gives the same
-  pub sent-same : (s : S) (b : List ℕ) (v w : Sending shortest b) → I s → sent call s v ≡ sent call s w
-  sent-same s b v w i = at_once (v.outs 0) (v.room 0) s b v i ∙ sym (at_once (v.outs 0) (v.room 0) s b w i)
+  pub sent_same : (s : S) (b : List ℕ) (v w : Sending shortest b) → I s → sent call s v ≡ sent call s w
+  sent_same s b v w i = at_once (v.outs 0) (v.room 0) s b v i ∙ sym (at_once (v.outs 0) (v.room 0) s b w i)

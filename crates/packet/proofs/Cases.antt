@@ -25,10 +25,10 @@ and_left false b h = h
 
 pub and_right : (a b : Bool) → (a && b) ≡ true → b ≡ true
 and_right true b h = h
-and_right false b h = absurd-ft h
+and_right false b h = absurd_ft h
   where
-    absurd-ft : ◌≡◌ {A = Bool} false true → b ≡ true
-    absurd-ft e = cc
+    absurd_ft : ◌≡◌ {A = Bool} false true → b ≡ true
+    absurd_ft e = cc
 
 pub and_both : (a b : Bool) → a ≡ true → b ≡ true → (a && b) ≡ true
 and_both a b p q = cc
@@ -38,10 +38,10 @@ or_left true b h = h
 or_left false b h = refl
 
 pub or_right : (a b : Bool) → (a || b) ≡ false → b ≡ false
-or_right true b h = absurd-tf h
+or_right true b h = absurd_tf h
   where
-    absurd-tf : ◌≡◌ {A = Bool} true false → b ≡ false
-    absurd-tf e = cc
+    absurd_tf : ◌≡◌ {A = Bool} true false → b ≡ false
+    absurd_tf e = cc
 or_right false b h = h
 
 -- which part of a disjunction holds, or of a conjunction fails

@@ -2,7 +2,6 @@
 pub mod Cases
 pub mod Calls
 pub mod Answering
-pub mod Lending
 pub use Rattle.packet.proofs.bytes.Laws as BytesLaws
 pub use Rattle.packet.proofs.number.Laws as NumberLaws
 pub use Rattle.packet.proofs.stream.Laws as StreamLaws

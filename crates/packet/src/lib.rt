@@ -1,4 +1,5 @@
 // The packet layer: bytes to packets and packets to bytes. What a packet means is not known here.
+#![tactic(auto)]
 
 // Numbers of two bytes.
 mod number;

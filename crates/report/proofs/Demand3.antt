@@ -16,9 +16,9 @@ use Rattle.command.specs.declared.settings.Settings.{Settings}
 use Rattle.command.specs.Player.{State, play, offence}
 use Rattle.command.specs.Encoder.{standard_list, Writes, writes, list_call}
 use Rattle.command.proofs.RulesLaws.{Kept, Fits, in_rule_of, kept_factory, fits_factory}
-use Rattle.command.proofs.EncoderLists.{standard-plays, standard-acknowledged, standard-finished, standard_size}
+use Rattle.command.proofs.EncoderLists.{standard_plays, standard_acknowledged, standard_finished, standard_size}
 use Rattle.command.proofs.PlayerLaws.{Holding, holding_play, kept_play}
-use Rattle.command.proofs.PlayerOffences.{earliest-named, none_named}
+use Rattle.command.proofs.PlayerOffences.{earliest_named, none_named}
 use Rattle.report.specs.Record.{Out}
 use Rattle.report.specs.Report.{Trial, Report, read_report, score_at, end_from, first_lowest, same_settings, check_report, Verdict, Accepted, Refused, verdict_of, verdict}
 use Rattle.report.specs.Claim.{record_of, head_of, trial_of, trial_records, report_of, FirstLowest, Ships, Claim, Listed, Standard, Lists, Demand3}
@@ -27,7 +27,7 @@ use Rattle.report.proofs.record.Laws.{run, pass, pass_none}
 use Rattle.report.proofs.same.Laws.{settings_true, settings_refl}
 use Rattle.report.proofs.trials.Laws.{lowest_true, lowest_back}
 use Rattle.report.proofs.verdict.Laid.{reading_whole}
-use Rattle.report.proofs.verdict.Reading.{Ends, bad, good, then, needs, needs-none, Laid, reading_report}
+use Rattle.report.proofs.verdict.Reading.{Ends, bad, good, then, needs, needs_none, Laid, reading_report}
 
 -- The test of what ships, and the claim: nothing offends.
 pub ships_none : (f : Settings) (b : List ℕ) → offence f b ≡ none → Ships f b
@@ -60,8 +60,8 @@ checking r p k =
     needs 17 p.place (first_lowest p.trials p.winner)
     (λ e. later 17 p.place _ k.put (F17 p.trials p.winner p.shipping k.keeps (fails _ e (lowest_back p.trials p.winner)))) λ w.
     let first = lowest_true p.trials p.winner k.keeps.named w in
-    needs-none 18 (p.place + 10) (offence factory p.shipping)
-    (λ n e. later 18 (p.place + 10 + n) _ (ten n) (F18 p.trials p.winner p.shipping n k.keeps first ((earliest-named factory p.shipping n).0 e))) λ c.
+    needs_none 18 (p.place + 10) (offence factory p.shipping)
+    (λ n e. later 18 (p.place + 10 + n) _ (ten n) (F18 p.trials p.winner p.shipping n k.keeps first ((earliest_named factory p.shipping n).0 e))) λ c.
     let ships = ships_none factory p.shipping c in
     needs 19 (p.place + 6) (same_settings a b)
     (λ e. later 19 (p.place + 6) _ four (F19 p.trials p.winner p.shipping k.keeps first ships (fails _ e (λ q. ap (λ (x : Settings). same_settings x b) q ∙ settings_refl b)))) λ e.
@@ -151,31 +151,31 @@ fits_end s (t ∷ ts) (suc k) r f b =
 
 -- What the standard list call writes for settings that keep the rules.
 module _ (s : Settings) (kept : Kept s) where
-  listed-call : (out : List ℕ) → 128 ≤ length out → list_call s out ≡ writes (standard_list s) out
+  listed_call : (out : List ℕ) → 128 ≤ length out → list_call s out ≡ writes (standard_list s) out
   unfolding list_call
-  listed-call out room = rw (le-ltb (length out) 128 room, in_rule_of s kept)
+  listed_call out room = rw (le-ltb (length out) 128 room, in_rule_of s kept)
 
   listed_start : (out : List ℕ) → 128 ≤ length out → take 111 (list_call s out).output ≡ standard_list s
   unfolding written
-  listed_start out room = rw (listed-call out room) (take_at (standard_list s) _ 111 (standard_size s))
+  listed_start out room = rw (listed_call out room) (take_at (standard_list s) _ 111 (standard_size s))
 
-  pub lists-all : (out : List ℕ) → 128 ≤ length out → Lists s out
+  pub lists_all : (out : List ℕ) → 128 ≤ length out → Lists s out
   unfolding written
-  lists-all out room =
+  lists_all out room =
       record {
-        answer = rw (listed-call out room) (ap Writes (standard_size s));
+        answer = rw (listed_call out room) (ap Writes (standard_size s));
         start = listed_start out room;
-        rest = rw (listed-call out room) (drop_at (standard_list s) _ 111 (standard_size s) ∙ rw (standard_size s));
+        rest = rw (listed_call out room) (drop_at (standard_list s) _ 111 (standard_size s) ∙ rw (standard_size s));
       }
 
   -- the bytes that the call wrote are the standard list
   listed : (b : List ℕ) → Listed s b → b ≡ standard_list s
   listed b h =
-      let n : h.size ≡ 111 = writes-same (sym h.answer ∙ (lists-all h.out h.room).answer) in
+      let n : h.size ≡ 111 = writes_same (sym h.answer ∙ (lists_all h.out h.room).answer) in
       h.start ∙ ap (λ (x : ℕ). take x (list_call s h.out).output) n ∙ listed_start h.out h.room
     where
-      writes-same : {m n : ℕ} → Writes m ≡ Writes n → m ≡ n
-      writes-same e = cc
+      writes_same : {m n : ℕ} → Writes m ≡ Writes n → m ≡ n
+      writes_same e = cc
 
 -- Any report of at least one trial and at most 60,000 bytes that keeps the layout, names the first of its lowest-scored trials
 -- and ships the standard list for that trial's end settings is accepted, whatever its trials sent.
@@ -200,11 +200,11 @@ standard_verdict r ts k b s =
       ships =
           subst (Ships factory) (sym list)
           (record {
-            acknowledged = standard-acknowledged e kept fits;
-            closed = ap (λ (p : State). p.transfer) (standard-plays e kept fits);
-            finished = standard-finished e kept fits;
+            acknowledged = standard_acknowledged e kept fits;
+            closed = ap (λ (p : State). p.transfer) (standard_plays e kept fits);
+            finished = standard_finished e kept fits;
           });
-      equal = ap (λ (x : List ℕ). (play factory x).settings) list ∙ ap (λ (p : State). p.settings) (standard-plays e kept fits);
+      equal = ap (λ (x : List ℕ). (play factory x).settings) list ∙ ap (λ (p : State). p.settings) (standard_plays e kept fits);
     })
 
 -- An answer that is the verdict meets the whole of demand 3.
@@ -214,5 +214,5 @@ demand3_of r v b e =
       ruled = e;
       exactly = λ k n s. ((λ h. accepted r k n s b (sym e ∙ h)), (λ h. e ∙ claimed r k n s h));
       standard = λ ts k s. e ∙ standard_verdict r ts k b s;
-      lists = λ ts k. lists-all (end_from factory ts k) (kept_end factory ts k kept_factory);
+      lists = λ ts k. lists_all (end_from factory ts k) (kept_end factory ts k kept_factory);
     }

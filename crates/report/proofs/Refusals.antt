@@ -13,15 +13,15 @@ use Rattle.packet.proofs.Cases.{bool_cases}
 use Rattle.packet.proofs.NumberLaws.{value_bytes}
 use Rattle.command.specs.Settings.{factory}
 use Rattle.command.specs.Player.{play, is_nil, Earliest}
-use Rattle.command.proofs.PlayerOffences.{earliest-named}
+use Rattle.command.proofs.PlayerOffences.{earliest_named}
 use Rattle.report.specs.Record.{Bad, Good, ◌>>=◌, ◌>>◌, need, sized, reading}
 use Rattle.report.specs.Report.{Trial, Report, read_trials, read_head, read_end, read_report, end_from, first_lowest, same_settings, check_report, Refused, verdict_of, verdict}
 use Rattle.report.specs.Claim.{record_of, head_of, trial_records, report_of, Scores, Layout, FirstLowest, Ships}
 use Rattle.report.specs.Refusals.{shipping_byte, Begins, Due, Head, More, Winner, Shipping, WrongLength, NotFour, UnderFour, NotTwo, Fault, F11, F12, F13, F14, F15, F16, F17, F18, F19, F20, Refusal, Long, Later}
-use Rattle.report.proofs.record.Laws.{run, stop, pass, pass_none, fail, fail_some, short-body, other-kind, wrong_size}
+use Rattle.report.proofs.record.Laws.{run, stop, pass, pass_none, fail, fail_some, short_body, other_kind, wrong_size}
 use Rattle.report.proofs.same.Laws.{settings_true}
 use Rattle.report.proofs.trials.Laws.{lowest_true, lowest_back}
-use Rattle.report.proofs.verdict.Laid.{length_before, length_report, count_bound, length-there, kind-there, whole-there, reading-record, head_laid, to_trials, reading_prefix, to_winner, winner_laid, to_shipping, reading_whole}
+use Rattle.report.proofs.verdict.Laid.{length_before, length_report, count_bound, length_there, kind_there, whole_there, reading_record, head_laid, to_trials, reading_prefix, to_winner, winner_laid, to_shipping, reading_whole}
 use Rattle.report.proofs.Demand3.{nothing_offends, Says, verdict_says}
 
 -- A record that is due and is refused ends the reading. Some of the trials are read, and one more is next:
@@ -87,7 +87,7 @@ check_bad r q e h = rw (e, h)
 module _ (r : List ℕ) (l : length r ≤ 60000) where
   -- 11
   cut_short : {kind at : ℕ} {left : List ℕ} → Due r kind at left → length left < 4 + value_of (take 2 left) → verdict r ≡ Refused 11 at
-  cut_short {kind} {at} {left} d h = report_bad r (due_stop r l d (short-body kind at left h))
+  cut_short {kind} {at} {left} d h = report_bad r (due_stop r l d (short_body kind at left h))
 
   -- what is due begins with a record of some kind
   module _ {kind at : ℕ} {left : List ℕ} (d : Due r kind at left) (other : ℕ) (body more : List ℕ) (e : left ≡ record_of other body ++ more) where
@@ -98,42 +98,42 @@ module _ (r : List ℕ) (l : length r ≤ 60000) where
     stopped h = report_bad r (due_stop r l d (ap (reading kind at) e ∙ h))
 
     -- 12
-    another-kind : other < 65536 → (other ≡ kind → ⊥) → verdict r ≡ Refused 12 at
-    another-kind o h =
-        stopped (other-kind kind at (record_of other body ++ more) (whole-there other body more o small) (λ q. h (sym (kind-there other body more o small) ∙ q)))
+    another_kind : other < 65536 → (other ≡ kind → ⊥) → verdict r ≡ Refused 12 at
+    another_kind o h =
+        stopped (other_kind kind at (record_of other body ++ more) (whole_there other body more o small) (λ q. h (sym (kind_there other body more o small) ∙ q)))
 
     -- 13
-    another-size : other ≡ kind → sized kind (length body) ≡ false → verdict r ≡ Refused 13 at
-    another-size k h =
+    another_size : other ≡ kind → sized kind (length body) ≡ false → verdict r ≡ Refused 13 at
+    another_size k h =
         let o : other < 65536 = omega (arith, due_kind d) in
         stopped
-        (wrong_size kind at (record_of other body ++ more) (whole-there other body more o small) (kind-there other body more o small ∙ k)
-        (ap (sized kind) (length-there other body more o small) ∙ h))
+        (wrong_size kind at (record_of other body ++ more) (whole_there other body more o small) (kind_there other body more o small ∙ k)
+        (ap (sized kind) (length_there other body more o small) ∙ h))
 
   -- kind 1 is there
   module _ (version count : ℕ) (more : List ℕ) (e : r ≡ record_of 1 (bytes_of 2 version ++ bytes_of 2 count) ++ more) where
-    head-stop : {n p : ℕ}
+    head_stop : {n p : ℕ}
         → (need (eqb (value_of (bytes_of 2 version)) 1) 14 0 >> (need (not (eqb (value_of (bytes_of 2 count)) 0)) 15 0 >> Good (value_of (bytes_of 2 count)))) ≡ Bad n p
         → verdict r ≡ Refused n p
     unfolding read_report
-    head-stop h = report_bad r (stop (read_head r) _ (ap read_head e ∙ head_laid version count more (subst (λ (x : List ℕ). length x ≤ 60000) e l) ∙ h))
+    head_stop h = report_bad r (stop (read_head r) _ (ap read_head e ∙ head_laid version count more (subst (λ (x : List ℕ). length x ≤ 60000) e l) ∙ h))
 
     -- 14
-    other-version : version < 65536 → (version ≡ 1 → ⊥) → verdict r ≡ Refused 14 0
-    other-version b h = head-stop (fail _ 14 0 _ (ne_eqb (value_of (bytes_of 2 version)) 1 (λ x. h (sym (value_bytes 2 version b) ∙ x))))
+    other_version : version < 65536 → (version ≡ 1 → ⊥) → verdict r ≡ Refused 14 0
+    other_version b h = head_stop (fail _ 14 0 _ (ne_eqb (value_of (bytes_of 2 version)) 1 (λ x. h (sym (value_bytes 2 version b) ∙ x))))
 
     -- 15
-    no-trials : version ≡ 1 → count ≡ 0 → verdict r ≡ Refused 15 0
-    no-trials v c =
-        head-stop
+    no_trials : version ≡ 1 → count ≡ 0 → verdict r ≡ Refused 15 0
+    no_trials v c =
+        head_stop
         (pass _ 14 0 _ (eq-eqb (value_of (bytes_of 2 version)) 1 (value_bytes 2 version (omega arith) ∙ v))
         (fail _ 15 0 _ (ap not (eq-eqb (value_of (bytes_of 2 count)) 0 (value_bytes 2 count (omega arith) ∙ c)))))
 
   -- 16
-  no-such-trial : (ts : List Trial) (k : ℕ) (more : List ℕ) → Begins r (length ts) ts (record_of 3 (bytes_of 2 k) ++ more) → 0 < length ts → k < 65536
+  no_such_trial : (ts : List Trial) (k : ℕ) (more : List ℕ) → Begins r (length ts) ts (record_of 3 (bytes_of 2 k) ++ more) → 0 < length ts → k < 65536
       → length ts ≤ k
       → verdict r ≡ Refused 16 (8 + length (trial_records ts))
-  no-such-trial ts k more b z c h =
+  no_such_trial ts k more b z c h =
       let at : ℕ = 8 + length (trial_records ts) in
       report_bad r
       (ap read_report b.joined
@@ -152,7 +152,7 @@ module _ (r : List ℕ) (l : length r ≤ 60000) where
       report_bad r
       (ap read_report f
       ∙ to_shipping ts k left w (omega (arith, count_bound ts)) s (subst (λ (y : List ℕ). length y ≤ 60000) f l)
-      (run (reading 4 (14 + length (trial_records ts)) left) _ (reading-record 4 ship (x ∷ more) (omega arith) (omega arith) (14 + length (trial_records ts)) refl)
+      (run (reading 4 (14 + length (trial_records ts)) left) _ (reading_record 4 ship (x ∷ more) (omega arith) (omega arith) (14 + length (trial_records ts)) refl)
       (fail (is_nil (x ∷ more)) 20 (18 + length (trial_records ts) + length ship) _ refl ∙ ap (Bad 20) (sym m))))
 
   -- the report keeps the layout, and is read
@@ -174,13 +174,13 @@ module _ (r : List ℕ) (l : length r ≤ 60000) where
       four = omega arith
 
       -- 18
-      offends-first : (n : ℕ) → Earliest factory ship n → verdict r ≡ Refused 18 (shipping_byte ts n)
+      offends_first : (n : ℕ) → Earliest factory ship n → verdict r ≡ Refused 18 (shipping_byte ts n)
       unfolding check_report
-      offends-first n h =
+      offends_first n h =
           let ten : (8 + length (trial_records ts)) + 10 + n ≡ shipping_byte ts n = omega arith in
           check_bad r _ read
           (pass _ 17 (8 + length (trial_records ts)) _ (lowest_back ts k w)
-          (fail_some _ 18 ((8 + length (trial_records ts)) + 10) _ ((earliest-named factory ship n).1 h) ∙ ap (Bad 18) ten))
+          (fail_some _ 18 ((8 + length (trial_records ts)) + 10) _ ((earliest_named factory ship n).1 h) ∙ ap (Bad 18) ten))
 
       -- 19
       not_same : Ships factory ship → ((play factory ship).settings ≡ end_from factory ts k → ⊥) → verdict r ≡ Refused 19 (14 + length (trial_records ts))
@@ -206,14 +206,14 @@ not_sized (NotTwo n h) = ne_eqb n 2 h
 
 fault_refused : (r : List ℕ) {n p : ℕ} → length r ≤ 60000 → Fault r n p → verdict r ≡ Refused n p
 fault_refused r l (F11 kind at left d h) = cut_short r l d h
-fault_refused r l (F12 kind at left other body more d e o h) = another-kind r l d other body more e o h
-fault_refused r l (F13 kind at left body more d e h) = another-size r l d kind body more e refl (not_sized h)
-fault_refused r l (F14 v n more e b h) = other-version r l v n more e b h
-fault_refused r l (F15 more e) = no-trials r l 1 0 more e refl refl
-fault_refused r l (F16 ts k more b z c h) = no-such-trial r l ts k more b z c h
+fault_refused r l (F12 kind at left other body more d e o h) = another_kind r l d other body more e o h
+fault_refused r l (F13 kind at left body more d e h) = another_size r l d kind body more e refl (not_sized h)
+fault_refused r l (F14 v n more e b h) = other_version r l v n more e b h
+fault_refused r l (F15 more e) = no_trials r l 1 0 more e refl refl
+fault_refused r l (F16 ts k more b z c h) = no_such_trial r l ts k more b z c h
 fault_refused r l (F20 ts k ship x more e s w) = bytes_after r l ts k ship x more e s w
 fault_refused r l (F17 ts k ship y h) = not_first r l ts k ship y h
-fault_refused r l (F18 ts k ship n y w h) = offends-first r l ts k ship y w n h
+fault_refused r l (F18 ts k ship n y w h) = offends_first r l ts k ship y w n h
 fault_refused r l (F19 ts k ship y w c h) = not_same r l ts k ship y w c h
 
 -- where a line of the table holds, the report is refused with its number and place

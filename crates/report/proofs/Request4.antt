@@ -13,7 +13,7 @@ use Rattle.command.specs.Settings.{factory}
 use Rattle.command.specs.Player.{play, offence, Offends, offending, Earliest}
 use Rattle.command.specs.declared.settings.Settings.{Settings}
 use Rattle.command.proofs.Request4 as command
-use Rattle.command.proofs.PlayerOffences.{none-offends, earliest-named}
+use Rattle.command.proofs.PlayerOffences.{none_offends, earliest_named}
 use Rattle.report.specs.Report.{Trial, end_from, same_settings, Refused, verdict}
 use Rattle.report.specs.Claim.{record_of, head_of, trial_records, report_of, Layout, FirstLowest, Ships}
 use Rattle.report.specs.Refusals.{shipping_byte, F18, F19, Later}
@@ -28,8 +28,8 @@ pub first_of : (s : Settings) (b : List ℕ) (m : ℕ) → Offends s b m → (n 
 first_of s b m h = go (offence s b) refl
   where
     go : (o : Option ℕ) → offence s b ≡ o → (n : ℕ) × Earliest s b n
-    go none e = absurd (none-offends s b e m h)
-    go (some n) e = (n, (earliest-named s b n).0 e)
+    go none e = absurd (none_offends s b e m h)
+    go (some n) e = (n, (earliest_named s b n).0 e)
 
 pub refused_18 : (r : List ℕ) → Bytes r → length r ≤ 60000 → (ts : List Trial) (k : ℕ) (ship : List ℕ) (n : ℕ) → Layout r ts k ship → FirstLowest ts k
     → Earliest factory ship n
@@ -38,8 +38,8 @@ refused_18 r b l ts k ship n y w e = (refused_exactly r 18 (shipping_byte ts n) 
 
 module _ (r : List ℕ) (ts : List Trial) (k : ℕ) (ship : List ℕ) (b : Bytes r) (h : Reaches r ts k ship) where
   -- where all ships the report is accepted or refused with 19
-  ships-not-18 : Ships factory ship → (p : ℕ) → verdict r ≡ Refused 18 p → ⊥
-  ships-not-18 s p e =
+  ships_not_18 : Ships factory ship → (p : ℕ) → verdict r ≡ Refused 18 p → ⊥
+  ships_not_18 s p e =
       let played = (play factory ship).settings in
       let end = end_from factory ts k in
       bool_cases (same_settings played end)
@@ -63,24 +63,24 @@ module _ (r : List ℕ) (ts : List Trial) (k : ℕ) (ship : List ℕ) (b : Bytes
       let v = (refused_exactly r 19 _ b).1 (Later 19 _ h.short (F19 ts k ship h.layout h.lowest s unlike)) in
       let z : ◌≡◌ {A = ℕ} 19 18 = cc in omega arith)
 
-  earliest-18 : (n : ℕ) → Earliest factory ship n → verdict r ≡ Refused 18 (shipping_byte ts n)
-  earliest-18 n = refused_18 r b h.short ts k ship n h.layout h.lowest
+  earliest_18 : (n : ℕ) → Earliest factory ship n → verdict r ≡ Refused 18 (shipping_byte ts n)
+  earliest_18 n = refused_18 r b h.short ts k ship n h.layout h.lowest
 
-  refuses-18 : ((p : ℕ) × (verdict r ≡ Refused 18 p)) ↔ (Ships factory ship → ⊥)
-  refuses-18 = (λ x s. ships-not-18 s x.0 x.1, λ f. go f (offence factory ship) refl)
+  refuses_18 : ((p : ℕ) × (verdict r ≡ Refused 18 p)) ↔ (Ships factory ship → ⊥)
+  refuses_18 = (λ x s. ships_not_18 s x.0 x.1, λ f. go f (offence factory ship) refl)
     where
       go : (Ships factory ship → ⊥) → (o : Option ℕ) → offence factory ship ≡ o → (p : ℕ) × (verdict r ≡ Refused 18 p)
       go f none e = absurd (f (ships_none factory ship e))
-      go f (some m) e = (shipping_byte ts m, earliest-18 m ((earliest-named factory ship m).0 e))
+      go f (some m) e = (shipping_byte ts m, earliest_18 m ((earliest_named factory ship m).0 e))
 
-  exactly-18 : (n : ℕ) → (verdict r ≡ Refused 18 (shipping_byte ts n)) ↔ Earliest factory ship n
-  exactly-18 n = (λ e. go e (offence factory ship) refl, earliest-18 n)
+  exactly_18 : (n : ℕ) → (verdict r ≡ Refused 18 (shipping_byte ts n)) ↔ Earliest factory ship n
+  exactly_18 n = (λ e. go e (offence factory ship) refl, earliest_18 n)
     where
       go : verdict r ≡ Refused 18 (shipping_byte ts n) → (o : Option ℕ) → offence factory ship ≡ o → Earliest factory ship n
-      go e none f = absurd (ships-not-18 (ships_none factory ship f) _ e)
+      go e none f = absurd (ships_not_18 (ships_none factory ship f) _ e)
       go e (some m) f =
-          let first = (earliest-named factory ship m).0 f in
-          let v = earliest-18 m first in
+          let first = (earliest_named factory ship m).0 f in
+          let v = earliest_18 m first in
           let place : shipping_byte ts m ≡ shipping_byte ts n = cc in
           let same : m ≡ n = omega (arith, place) in
           subst (Earliest factory ship) same first
@@ -91,25 +91,25 @@ module _ (ts : List Trial) (k : ℕ) (ship : List ℕ) where
   before : List ℕ
   before = head_of (length ts) ++ (trial_records ts ++ (record_of 3 (bytes_of 2 k) ++ (bytes_of 2 (length ship) ++ bytes_of 2 4)))
 
-  before-them : report_of ts k ship ≡ before ++ ship
+  before_them : report_of ts k ship ≡ before ++ ship
   unfolding report_of record_of before
-  before-them = simp append_assoc
+  before_them = simp append_assoc
 
-  before-length : length before ≡ 18 + length (trial_records ts)
-  before-length = omega (arith, ap length before-them, length-append before ship, length_report ts k ship)
+  before_length : length before ≡ 18 + length (trial_records ts)
+  before_length = omega (arith, ap length before_them, length-append before ship, length_report ts k ship)
 
-  ship-there : (n : ℕ) → drop (shipping_byte ts n) (report_of ts k ship) ≡ drop n ship
-  ship-there n =
+  ship_there : (n : ℕ) → drop (shipping_byte ts n) (report_of ts k ship) ≡ drop n ship
+  ship_there n =
       sym (drop-drop n (18 + length (trial_records ts)) (report_of ts k ship))
-      ∙ ap (drop n) (ap (drop (18 + length (trial_records ts))) before-them ∙ drop_at before ship (18 + length (trial_records ts)) before-length)
+      ∙ ap (drop n) (ap (drop (18 + length (trial_records ts))) before_them ∙ drop_at before ship (18 + length (trial_records ts)) before_length)
 
 stands_in : (r : List ℕ) (ts : List Trial) (k : ℕ) (ship : List ℕ) (n : ℕ) (o : Offends factory ship n) → Layout r ts k ship
     → (take (length (offending o)) (drop (shipping_byte ts n) r) ≡ offending o) × (shipping_byte ts n < length r)
 stands_in r ts k ship n o y =
     let there = (command.request_4).stands factory ship n o in (
-      ap (take (length (offending o))) (ap (drop (shipping_byte ts n)) y.laid ∙ ship-there ts k ship n) ∙ there.0,
+      ap (take (length (offending o))) (ap (drop (shipping_byte ts n)) y.laid ∙ ship_there ts k ship n) ∙ there.0,
       omega (arith, there.1, ap length y.laid, length_report ts k ship),
     )
 
 pub request_4 : Request4
-request_4 = record { refuses = refuses-18; exactly = exactly-18; stands = stands_in }
+request_4 = record { refuses = refuses_18; exactly = exactly_18; stands = stands_in }

@@ -1,5 +1,5 @@
 -- For the code alone: what its functions have read, by the readings of specs/Report.antt. The laws that make the verdict of them, in proofs/verdict/Laws:
--- HeadAt `head_no`; BestAt, with First, `trials_no`; WinnerAt, with named_at, `winner-no`, `verdict-read`. RecordAt is the reading of specs/Record.antt,
+-- HeadAt `head_no`; BestAt, with First, `trials_no`; WinnerAt, with named_at, `winner_no`, `verdict_read`. RecordAt is the reading of specs/Record.antt,
 -- DigitsOf the decimal of specs/Line.antt.
 use Rattle.std.specs.Prelude.{ℕ, ◌+◌, ◌<◌, ◌≤◌, ◌≡◌, true, List, eqb, length, take, drop}
 use Rattle.command.specs.Settings.{factory}

@@ -7,6 +7,8 @@
 //   same     equality of settings
 //   verdict  the yes or the no: `check`
 //   line     that answer as the checking program's line: `write_line`
+#![tactic(auto)]
+
 mod end;
 mod head;
 mod line;

@@ -10,6 +10,8 @@
 // A case is a row: its kind in a byte, its length in four, least significant first, and its bytes.
 // `scripts/vectors-data` makes the cases and the expected text from the vectors and the papers, and
 // nothing of it comes from this program. What is proved of the program is that it is safe and ends.
+#![tactic(auto)]
+
 mod asking;
 mod emit;
 mod fields;

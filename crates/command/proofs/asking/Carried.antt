@@ -43,12 +43,12 @@ use Rattle.command.specs.declared.controller.Controller.{Controller}
 use Rattle.command.specs.declared.ruling.JudgementRecord.{JudgementRecord}
 use Rattle.command.proofs.rules.Laws.{Writable, kept_by}
 use Rattle.command.proofs.transfer.Laws.{fits_hold, held_is, in_order_lem, reads_alone}
-use Rattle.command.proofs.faults.Laws.{codes-some}
-use Rattle.command.proofs.ruling.Laws.{codes_alone, mask-told}
+use Rattle.command.proofs.faults.Laws.{codes_some}
+use Rattle.command.proofs.ruling.Laws.{codes_alone, mask_told}
 use Rattle.command.proofs.judgement.Laws.{judge_cases}
 use Rattle.command.proofs.controller.Laws.{rule_parts}
 use Rattle.command.proofs.endpoint.Laws.{held_same}
-use Rattle.command.proofs.endpoint.Boundary.{carried_state, drawn, Takes, takes-packet, between_of, follows_played, wrong_played}
+use Rattle.command.proofs.endpoint.Boundary.{carried_state, drawn, Takes, takes_packet, between_of, follows_played, wrong_played}
 use Rattle.command.proofs.asking.Ways.{same_self}
 use Rattle.command.proofs.asking.Runs.{half_stays, rule_stays}
 use Rattle.command.proofs.Demand2.{is_packet}
@@ -146,20 +146,20 @@ module _ (c : Controller) (k : Ready c) (p : List ℕ) (lent : JudgementRecord) 
     no_codes Unknown = refl
     no_codes (Known d) = refl
 
-    error-means : meant (recordFor (Error codes)) ≡ Error (codes_alone codes)
+    error_means : meant (recordFor (Error codes)) ≡ Error (codes_alone codes)
     unfolding meant
-    error-means =
+    error_means =
         cond_cases (λ m. m ≡ Error (codes_told (mask_of codes))) (eqb (mask_of codes) 0)
         (λ e. no_codes (command_of (cmd1_of p) (cmd2_of p)) ∙ ap (λ (n : ℕ). Error (codes_told n)) (sym (eqb-true (mask_of codes) 0 e)))
         (λ _. refl)
-        ∙ ap Error (mask-told codes)
+        ∙ ap Error (mask_told codes)
 
-    error-genuine : is_nil (codes_of codes) ≡ false → Genuine (Error codes)
+    error_genuine : is_nil (codes_of codes) ≡ false → Genuine (Error codes)
     unfolding forged codes_of
-    error-genuine h =
+    error_genuine h =
         record {
-          means = error-means;
-          drawn = ap (λ (m : Judgement). is_nil (codes_in m) && not (drawable (recordFor (Error codes)))) error-means ∙ rw h;
+          means = error_means;
+          drawn = ap (λ (m : Judgement). is_nil (codes_in m) && not (drawable (recordFor (Error codes)))) error_means ∙ rw h;
         }
 
   -- what a packet with no fault draws
@@ -167,10 +167,10 @@ module _ (c : Controller) (k : Ready c) (p : List ℕ) (lent : JudgementRecord) 
   NoFault d = any_fault (faults (Known d) (state_of c).transfer (arrived p)) ≡ false
 
   module _ (i : IsPacket p) (d : Command) (e : command_of (cmd1_of p) (cmd2_of p) ≡ Known d) (n : NoFault d) where
-    accepted-genuine : (j : Judgement) → mask_in j ≡ 0 → wrong_in j ≡ none → data_for heldData (payload p) j ≡ heldData ++ payload p
+    accepted_genuine : (j : Judgement) → mask_in j ≡ 0 → wrong_in j ≡ none → data_for heldData (payload p) j ≡ heldData ++ payload p
         → accepted_as (Known d) (recordFor j) ≡ told j → acceptable (Known d) (recordFor j) ≡ true → Genuine j
     unfolding meant forged drawable
-    accepted-genuine j m w x a g =
+    accepted_genuine j m w x a g =
         let q = rule_parts c.settings c.registers k.rule in
         let f = fits_hold (Known d) (state_of c).transfer (arrived p) n in
         let s = held_same c k in
@@ -189,11 +189,11 @@ module _ (c : Controller) (k : Ready c) (p : List ℕ) (lent : JudgementRecord) 
           drawn = ap (λ (b : Bool). uncoded (recordFor j) && not b) draws ∙ and-false (uncoded (recordFor j));
         }
 
-    continues-own : (j : Judgement) → in_order d (recordFor j) ≡ true
-    continues-own j = ap (λ (t : Transfer). not (is_open t) || open_for (Known d) t) (open_kept_lem j) ∙ in_order_lem d (state_of c).transfer (arrived p) n
+    continues_own : (j : Judgement) → in_order d (recordFor j) ≡ true
+    continues_own j = ap (λ (t : Transfer). not (is_open t) || open_for (Known d) t) (open_kept_lem j) ∙ in_order_lem d (state_of c).transfer (arrived p) n
 
-    asks-only : eqb (type_of p) host_read ≡ true → eqb (length (heldData ++ payload p)) 0 ≡ true → asks_only d (recordFor (Read d)) ≡ true
-    asks-only r z =
+    asks_only_lem : eqb (type_of p) host_read ≡ true → eqb (length (heldData ++ payload p)) 0 ≡ true → asks_only d (recordFor (Read d)) ≡ true
+    asks_only_lem r z =
         let a = reads_alone d (state_of c).transfer (arrived p) n r in
         and_both _ _ (and_both _ _ (ap (λ (t : Transfer). not (is_open t)) (open_kept_lem (Read d)) ∙ ap not a.0) a.1) z
 
@@ -206,27 +206,27 @@ module _ (c : Controller) (k : Ready c) (p : List ℕ) (lent : JudgementRecord) 
   genuine i =
       judge_cases Genuine c.settings.mode (state_of c).transfer (arrived p)
       (λ f.
-      error-genuine (faults (command_of (cmd1_of p) (cmd2_of p)) (state_of c).transfer (arrived p))
-      (some-code _ (codes-some (state_of c).transfer (arrived p) f)))
+      error_genuine (faults (command_of (cmd1_of p) (cmd2_of p)) (state_of c).transfer (arrived p))
+      (some_code _ (codes_some (state_of c).transfer (arrived p) f)))
       (λ d e n.
       let b : List ℕ = heldData ++ payload p in
       record {
-        hold = λ _. accepted-genuine i d e n (Hold d) refl refl refl refl (continues-own i d e n (Hold d));
-        read = λ _ r z. accepted-genuine i d e n (Read d) refl refl refl refl (asks-only i d e n r z);
-        asked = λ _ _ _. error-genuine size_fault refl;
-        size = λ _ _ _. error-genuine size_fault refl;
-        value = λ _ _ _ _. error-genuine (value_fault (wrong_byte d (split_all (layout d) b))) refl;
-        blocks = λ _ _ _ _ _. error-genuine mode_fault refl;
+        hold = λ _. accepted_genuine i d e n (Hold d) refl refl refl refl (continues_own i d e n (Hold d));
+        read = λ _ r z. accepted_genuine i d e n (Read d) refl refl refl refl (asks_only_lem i d e n r z);
+        asked = λ _ _ _. error_genuine size_fault refl;
+        size = λ _ _ _. error_genuine size_fault refl;
+        value = λ _ _ _ _. error_genuine (value_fault (wrong_byte d (split_all (layout d) b))) refl;
+        blocks = λ _ _ _ _ _. error_genuine mode_fault refl;
         write = λ _ _ l w.
             let v = Write (value_from d (split_all (layout d) b)) in
-            accepted-genuine i d e n v refl refl refl
+            accepted_genuine i d e n v refl refl refl
             (ap (λ (x : List ℕ). Write (value_from d (split_all (layout d) x))) (joined_is v))
-            (and_both _ _ (continues-own i d e n v) (ap (writable d c.settings.mode) (joined_is v) ∙ may_write i d e n l w));
+            (and_both _ _ (continues_own i d e n v) (ap (writable d c.settings.mode) (joined_is v) ∙ may_write i d e n l w));
       })
     where
-      some-code : (l : List ℕ) → (l ≡ [] → ⊥) → is_nil l ≡ false
-      some-code [] h = absurd (h refl)
-      some-code (x ∷ l) h = refl
+      some_code : (l : List ℕ) → (l ≡ [] → ⊥) → is_nil l ≡ false
+      some_code [] h = absurd (h refl)
+      some_code (x ∷ l) h = refl
 
 -- The judge call on a head in rule and a packet.
 
@@ -243,22 +243,22 @@ module _ (c : Controller) (p : List ℕ) (lent : JudgementRecord) (k : Ready c) 
   record_is = ap (λ (r : Judging). r.judgement) (judge_is c p lent k o)
 
   -- what it means
-  judgement-meant : meant (judgement_of c p lent) ≡ told (judged (state_of c) p)
-  judgement-meant = ap meant record_is ∙ (genuine c k p lent (is_packet p o)).means
+  judgement_meant : meant (judgement_of c p lent) ≡ told (judged (state_of c) p)
+  judgement_meant = ap meant record_is ∙ (genuine c k p lent (is_packet p o)).means
 
   -- it is never refused with 2
-  pub never-forged : forged (judgement_of c p lent) ≡ false
-  never-forged = ap forged record_is ∙ (genuine c k p lent (is_packet p o)).drawn
+  pub never_forged : forged (judgement_of c p lent) ≡ false
+  never_forged = ap forged record_is ∙ (genuine c k p lent (is_packet p o)).drawn
 
   -- it keeps the items
-  pub keeps-items : items_kept (judgement_of c p lent) ≡ items_of c
-  keeps-items = ap (λ (j : JudgementRecord). items_kept j) record_is ∙ items_kept_lem c k p lent (judged (state_of c) p)
+  pub keeps_items : items_kept (judgement_of c p lent) ≡ items_of c
+  keeps_items = ap (λ (j : JudgementRecord). items_kept j) record_is ∙ items_kept_lem c k p lent (judged (state_of c) p)
 
 pub judging_says : (c : Controller) (p : List ℕ) (lent : JudgementRecord) → Ready c → OnePacket p
     → ((judge_call c p lent).refusal ≡ none) × Says c p (judgement_of c p lent)
 judging_says c p lent k o =
     let e = judge_is c p lent k o in
-    let m = judgement-meant c p lent k o in (
+    let m = judgement_meant c p lent k o in (
       ap (λ (r : Judging). r.refusal) e,
       record {
         codes = ap (λ (r : Judging). r.judgement.ruling.codes) e;
@@ -292,30 +292,30 @@ module _ (c d : Controller) (p : List ℕ) (lent : JudgementRecord) (k : Ready c
   abbrev given : JudgementRecord
   given = judgement_of c p lent
 
-  judged-alike : judged (state_of c) p ≡ judged (state_of d) p
+  judged_alike : judged (state_of c) p ≡ judged (state_of d) p
   unfolding judged
-  judged-alike =
+  judged_alike =
       ap₂ (λ (m : ℕ) (t : Transfer). judge m t (arrived p)) (ap (λ (i : Items). i.mode) (sym e))
       (same_transfer c.settings.mode d.settings.mode (transfer_of c.registers) (transfer_of d.registers) c.buffer d.buffer (sym e))
 
-  means-there : meant given ≡ told (judged (state_of d) p)
-  means-there = judgement-meant c p lent k o ∙ ap told judged-alike
+  means_there : meant given ≡ told (judged (state_of d) p)
+  means_there = judgement_meant c p lent k o ∙ ap told judged_alike
 
-  carry-is : (out : List ℕ) → 64 ≤ length out → carry_call d given out ≡ carries d given out
+  carry_is : (out : List ℕ) → 64 ≤ length out → carry_call d given out ≡ carries d given out
   unfolding carry_call
-  carry-is out h =
-      let s = ap (same_items (items_of d)) (keeps-items c p lent k o ∙ sym e) ∙ same_self (items_of d) in
-      rw (le-ltb (length out) 64 h, l.rule, never-forged c p lent k o, s)
+  carry_is out h =
+      let s = ap (same_items (items_of d)) (keeps_items c p lent k o ∙ sym e) ∙ same_self (items_of d) in
+      rw (le-ltb (length out) 64 h, l.rule, never_forged c p lent k o, s)
 
-  response-is : response_for d given ≡ drawn d p
+  response_is : response_for d given ≡ drawn d p
   unfolding response_for response
-  response-is =
+  response_is =
       ap (λ (x : JudgementRecord). response_to x.ruling.cmd1 x.ruling.cmd2 d.settings (meant given)) (record_is c p lent k o)
-      ∙ ap (response_to (cmd1_of p) (cmd2_of p) d.settings) means-there
+      ∙ ap (response_to (cmd1_of p) (cmd2_of p) d.settings) means_there
       ∙ response_told (cmd1_of p) (cmd2_of p) d (judged (state_of d) p)
 
-  brought-is : brought_in given ≡ drop (held_in (transfer_of c.registers)) (data_for (held (state_of c).transfer) (payload p) (judged (state_of c) p))
-  brought-is =
+  brought_is : brought_in given ≡ drop (held_in (transfer_of c.registers)) (data_for (held (state_of c).transfer) (payload p) (judged (state_of c) p))
+  brought_is =
       ap (λ (x : JudgementRecord). brought_in x) (record_is c p lent k o)
       ∙ ap (drop (held_in (transfer_of c.registers))) (joined_is c k p lent (judged (state_of c) p))
 
@@ -324,22 +324,22 @@ module _ (c d : Controller) (p : List ℕ) (lent : JudgementRecord) (k : Ready c
       let n = held_in (transfer_of c.registers) in
       let x = judged (state_of c) p in
       let b = data_for (held (state_of c).transfer) (payload p) x in
-      ap₂ (carried_out d (receiver_in d)) brought-is (judgement-meant c p lent k o)
+      ap₂ (carried_out d (receiver_in d)) brought_is (judgement_meant c p lent k o)
       ∙ told_same (carried_out d (receiver_in d) (drop n b)) (λ _. refl) x
       ∙ brought_out d (held (state_of c).transfer) (payload p) n (held_same c k) x
-      ∙ ap (carried_out d (receiver_in d) (payload p)) judged-alike
+      ∙ ap (carried_out d (receiver_in d) (payload p)) judged_alike
 
-  state-is : state_of (carried_out d (receiver_in d) (brought_in given) (meant given)) ≡ next (state_of d) p
-  state-is = ap state_of left_is ∙ carried_state d l p (is_packet p o) (receiver_in d) (payload p) (λ _. refl)
+  state_is : state_of (carried_out d (receiver_in d) (brought_in given) (meant given)) ≡ next (state_of d) p
+  state_is = ap state_of left_is ∙ carried_state d l p (is_packet p o) (receiver_in d) (payload p) (λ _. refl)
 
   -- it is what document 01 says of the packet there
   obeys : (out : List ℕ) → 64 ≤ length out → Obeys d p out (carry_call d given out)
   obeys out h =
-      let r = carry-is out h in
+      let r = carry_is out h in
       record {
-        answer = ap (λ (x : Carrying). x.answer) r ∙ ap (λ (m : List ℕ). Writes (length m)) response-is;
-        output = ap (λ (x : Carrying). x.output) r ∙ ap (λ (m : List ℕ). written m out) response-is;
-        state = ap (λ (x : Carrying). state_of x.controller) r ∙ state-is;
+        answer = ap (λ (x : Carrying). x.answer) r ∙ ap (λ (m : List ℕ). Writes (length m)) response_is;
+        output = ap (λ (x : Carrying). x.output) r ∙ ap (λ (m : List ℕ). written m out) response_is;
+        state = ap (λ (x : Carrying). state_of x.controller) r ∙ state_is;
         receiver = half_stays d given out;
         ready = rule_stays d given out l;
       }
@@ -375,21 +375,21 @@ module _ (c : Controller) (p : List ℕ) (lent : JudgementRecord) (out : List �
     obeyed : Obeys c p out carried
     obeyed = obeys c c p lent q.ready q.ready o refl out room
 
-    count-is : length (drawn c p) ≡ n
-    count-is = same_count (length (drawn c p)) n (sym obeyed.answer ∙ w)
+    count_is : length (drawn c p) ≡ n
+    count_is = same_count (length (drawn c p)) n (sym obeyed.answer ∙ w)
 
     takes : Takes out c p (receive_call c p out)
     takes =
         subst (λ (x : List ℕ). Takes out c p (receive_call c x out)) (append-nil p)
-        (takes-packet out room c q.ready (between_of q) p [] (is_packet p o))
+        (takes_packet out room c q.ready (between_of q) p [] (is_packet p o))
 
     -- the controller that is left
     left : carried.controller ≡ carried_out c (receiver_in c) (payload p) (judged (state_of c) p)
-    left = ap (λ (x : Carrying). x.controller) (carry-is c c p lent q.ready q.ready o refl out room) ∙ left_is c c p lent q.ready q.ready o refl
+    left = ap (λ (x : Carrying). x.controller) (carry_is c c p lent q.ready q.ready o refl out room) ∙ left_is c c p lent q.ready q.ready o refl
 
-    output-is : take n carried.output ≡ drawn c p
+    output_is : take n carried.output ≡ drawn c p
     unfolding written
-    output-is = ap (take n) obeyed.output ∙ take_at (drawn c p) (drop (length (drawn c p)) out) n count-is
+    output_is = ap (take n) obeyed.output ∙ take_at (drawn c p) (drop (length (drawn c p)) out) n count_is
 
 pub receive_obeys : (c : Controller) (p : List ℕ) (lent : JudgementRecord) (out : List ℕ) (n : ℕ) → Boundary c → OnePacket p
     → let r = carry_call c (judgement_of c p lent) out in r.answer ≡ Writes n → Alike c p out n (judgement_of c p lent) r
@@ -397,7 +397,7 @@ receive_obeys c p lent out n q o w =
     let t = takes c p lent out n q o w in
     let x = left c p lent out n q o w in
     record {
-      answer = t.answer ∙ ap (Answers (length p)) (count-is c p lent out n q o w);
+      answer = t.answer ∙ ap (Answers (length p)) (count_is c p lent out n q o w);
       wrong = ap wrong_told t.wrong ∙ sym (judging_says c p lent q.ready o).1.wrong;
       output = t.output ∙ sym (obeyed c p lent out n q o w).output;
       settings = ap (λ (d : Controller). d.settings) t.controller ∙ sym (ap (λ (d : Controller). d.settings) x);
@@ -414,7 +414,7 @@ pub cut_obeys : (c : Controller) (p : List ℕ) (s : Sending p) (lent : Judgemen
 unfolding responses after judgements
 cut_obeys c p s lent out n q o w =
     let f = follows_played c p s q in (
-      f.given ∙ ap (responses (state_of c)) o ∙ ap {B = List (List ℕ)} (λ (x : List ℕ). x ∷ []) (sym (output-is c p lent out n q o w)),
+      f.given ∙ ap (responses (state_of c)) o ∙ ap {B = List (List ℕ)} (λ (x : List ℕ). x ∷ []) (sym (output_is c p lent out n q o w)),
       ap (map wrong_told) (wrong_played c p s q ∙ ap (λ (ps : List (List ℕ)). map wrong_in (judgements (state_of c) ps)) o)
           ∙ ap (λ (m : ℕ). m ∷ []) (sym (judging_says c p lent q.ready o).1.wrong),
       f.ends ∙ ap (after (state_of c)) o ∙ sym (obeyed c p lent out n q o w).state,

@@ -15,7 +15,7 @@ use Rattle.packet.specs.Receiver.{packet_in_rule}
 use Rattle.packet.specs.Writer.{written}
 use Rattle.packet.proofs.Cases.{cond_cases, and_left, and_right, never}
 use Rattle.packet.proofs.NumberLaws.{bytes_append, bytes_take, bytes_drop, bytes_bytes}
-use Rattle.packet.proofs.WriterLaws.{packet-written, payload-written}
+use Rattle.packet.proofs.WriterLaws.{packet_written, payload_written}
 use Rattle.command.specs.Table.{cmd1_for, cmd2_for, layout, size_of, readable}
 use Rattle.command.specs.Settings.{factory, values_after, store}
 use Rattle.command.specs.Rules.{allowed, blocked}
@@ -47,7 +47,7 @@ use Rattle.command.specs.declared.ruling.JudgementRecord.{JudgementRecord}
 use Rattle.command.proofs.table.Laws.{each, known_code}
 use Rattle.command.proofs.rules.Laws.{Writable, in_rule_of, kept_store, kept_factory}
 use Rattle.command.proofs.controller.Laws.{rule_whole}
-use Rattle.command.proofs.transfer.Laws.{open_is, open-for-is, held_is, faults-are}
+use Rattle.command.proofs.transfer.Laws.{open_is, open_for_is, held_is, faults_are}
 use Rattle.command.proofs.encoder.Laws.{packet_with, arrived_written}
 use Rattle.command.proofs.asking.Ways.{all_of_four}
 use Rattle.command.proofs.asking.Carried.{one_packet_lem}
@@ -148,15 +148,15 @@ module _ (j : JudgementRecord) (m : Made j) (z : j.ruling.codes ≡ 0) (v : j.ru
   most : j.ruling.count ≤ 1024
   most = leb-true j.ruling.count 1024 (and_right (leb (held_in numbers) j.ruling.count) _ b)
 
-  count-is : length (joined_in j) ≡ j.ruling.count
-  count-is = length-take-le j.ruling.count j.joined (omega (arith, most, m.size))
+  count_is : length (joined_in j) ≡ j.ruling.count
+  count_is = length-take-le j.ruling.count j.joined (omega (arith, most, m.size))
 
   -- the held data, and behind them those that are brought
-  brought-length : held_in numbers + length (brought_in j) ≡ j.ruling.count
-  brought-length = omega (arith, length-drop (held_in numbers) (joined_in j), count-is, least)
+  brought_length : held_in numbers + length (brought_in j) ≡ j.ruling.count
+  brought_length = omega (arith, length-drop (held_in numbers) (joined_in j), count_is, least)
 
-  brought-small : length (brought_in j) ≤ 1024
-  brought-small = omega (arith, brought-length, most)
+  brought_small : length (brought_in j) ≤ 1024
+  brought_small = omega (arith, brought_length, most)
 
   joined_is : take (held_in numbers) j.joined ++ brought_in j ≡ joined_in j
   joined_is =
@@ -176,27 +176,27 @@ module _ (j : JudgementRecord) (m : Made j) (z : j.ruling.codes ≡ 0) (v : j.ru
         rw (
           w,
           o,
-          le-ltb 1024 (length (brought_in j)) brought-small,
-          le-ltb 1024 (held_in numbers + length (brought_in j)) (omega (arith, brought-length, most)),
+          le-ltb 1024 (length (brought_in j)) brought_small,
+          le-ltb 1024 (held_in numbers + length (brought_in j)) (omega (arith, brought_length, most)),
           and-false,
         )
 
-    judged-bringer : judged (state_of (keeper j)) bringer ≡ judge_data c j.ruling.kept.mode type flags (joined_in j)
+    judged_bringer : judged (state_of (keeper j)) bringer ≡ judge_data c j.ruling.kept.mode type flags (joined_in j)
     unfolding judged judge judge_as store values_after
-    judged-bringer =
+    judged_bringer =
         let p : Arrived = packet_with type j.ruling.cmd1 j.ruling.cmd2 flags (brought_in j) in
         ap (λ (x : Arrived). judge j.ruling.kept.mode (open_kept j) x)
-        (arrived_written type j.ruling.cmd1 j.ruling.cmd2 flags (brought_in j) (omega (arith, brought-small)))
-        ∙ rw (e, faults-are numbers in_rule_lem j.joined m.size (Known c) p, no_faults_lem, held_is numbers in_rule_lem j.joined, joined_is)
+        (arrived_written type j.ruling.cmd1 j.ruling.cmd2 flags (brought_in j) (omega (arith, brought_small)))
+        ∙ rw (e, faults_are numbers in_rule_lem j.joined m.size (Known c) p, no_faults_lem, held_is numbers in_rule_lem j.joined, joined_is)
 
     -- it draws the record, if it is accepted so
-    drawn-by : (x : Judgement) → judge_data c j.ruling.kept.mode type flags (joined_in j) ≡ x
+    drawn_by : (x : Judgement) → judge_data c j.ruling.kept.mode type flags (joined_in j) ≡ x
         → eqb j.ruling.accepts (acceptance x) ≡ true
         → eqb (acceptance x) 0 ≡ false
         → type < 256
         → flags < 256
         → Drawn j
-    drawn-by x y a n type-small flags-small =
+    drawn_by x y a n type-small flags-small =
         let code = known_code j.ruling.cmd1 j.ruling.cmd2 c e in
         let small = command_bytes c in
         record {
@@ -212,12 +212,12 @@ module _ (j : JudgementRecord) (m : Made j) (z : j.ruling.codes ≡ 0) (v : j.ru
               unfold judge_call packet_of sealed store values_after in
               rw (
                 (keeper_ready j m k).rule,
-                one_packet_lem bringer (packet-written type j.ruling.cmd1 j.ruling.cmd2 flags (brought_in j) (omega (arith, brought-small))),
-                judged-bringer ∙ y,
+                one_packet_lem bringer (packet_written type j.ruling.cmd1 j.ruling.cmd2 flags (brought_in j) (omega (arith, brought_small))),
+                judged_bringer ∙ y,
               )
               (judging_eq j
               (ruling_eq j.ruling ((plain x n).codes ∙ sym z) (sym (eqb-true j.ruling.accepts (acceptance x) a)) (ap wrong_told (plain x n).wrong ∙ sym v)
-              (ap length data_is ∙ count-is) refl refl refl)
+              (ap length data_is ∙ count_is) refl refl refl)
               (ap (λ (d : List ℕ). written d j.joined) data_is ∙ written_same j.ruling.count j.joined (omega (arith, most, m.size))));
         }
       where
@@ -226,48 +226,48 @@ module _ (j : JudgementRecord) (m : Made j) (z : j.ruling.codes ≡ 0) (v : j.ru
             (plain x n).joins (held (open_kept j)) (payload bringer)
             ∙ rw (
               held_is numbers in_rule_lem j.joined,
-              payload-written type j.ruling.cmd1 j.ruling.cmd2 flags (brought_in j) (omega (arith, brought-small)),
+              payload_written type j.ruling.cmd1 j.ruling.cmd2 flags (brought_in j) (omega (arith, brought_small)),
             ) joined_is
 
   open_kept_lem : is_open (open_kept j) ≡ is_open_in numbers
   open_kept_lem = open_is numbers in_rule_lem j.joined
 
-  drawn-write : (complete : Bool) → in_order c j ≡ true → (x : Judgement)
+  drawn_write : (complete : Bool) → in_order c j ≡ true → (x : Judgement)
       → cond complete (judge_write c j.ruling.kept.mode (joined_in j)) (Hold c) ≡ x
       → eqb j.ruling.accepts (acceptance x) ≡ true
       → eqb (acceptance x) 0 ≡ false
       → Drawn j
   unfolding judge_data wrong_command
-  drawn-write complete o x y a n =
+  drawn_write complete o x y a n =
       let ours : (not (is_open_in numbers) || open_for_in (Known c) numbers) ≡ true =
-      rw (open_kept_lem, open-for-is numbers in_rule_lem j.joined (Known c)) at o in
+      rw (open_kept_lem, open_for_is numbers in_rule_lem j.joined (Known c)) at o in
       let f = flags_for_lem complete (is_open_in numbers) (open_for_in (Known c) numbers) ours in
-      drawn-by host_write (flags_for complete (is_open_in numbers)) refl f.1 x (rw f.0 y) a n (omega arith) f.2
+      drawn_by host_write (flags_for complete (is_open_in numbers)) refl f.1 x (rw f.0 y) a n (omega arith) f.2
 
-  drawn-read : eqb j.ruling.accepts reads ≡ true → asks_only c j ≡ true → Drawn j
+  drawn_read : eqb j.ruling.accepts reads ≡ true → asks_only c j ≡ true → Drawn j
   unfolding judge_data judge_read wrong_command wrong_order
-  drawn-read r a =
+  drawn_read r a =
       let first = and_left (not (is_open (open_kept j)) && readable c) _ a in
       let closed : is_open_in numbers ≡ false = sym open_kept_lem ∙ not-true (is_open (open_kept j)) (and_left _ (readable c) first) in
-      let empty : length (joined_in j) ≡ 0 = count-is ∙ eqb-true j.ruling.count 0 (and_right (not (is_open (open_kept j)) && readable c) _ a) in
-      drawn-by host_read whole (rw (and_right (not (is_open (open_kept j))) (readable c) first)) (rw closed) (Read c) (rw empty) r refl (omega arith) (omega arith)
+      let empty : length (joined_in j) ≡ 0 = count_is ∙ eqb-true j.ruling.count 0 (and_right (not (is_open (open_kept j)) && readable c) _ a) in
+      drawn_by host_read whole (rw (and_right (not (is_open (open_kept j))) (readable c) first)) (rw closed) (Read c) (rw empty) r refl (omega arith) (omega arith)
 
-  drawn-accepted : acceptable (Known c) j ≡ true → Drawn j
+  drawn_accepted : acceptable (Known c) j ≡ true → Drawn j
   unfolding judge_write
-  drawn-accepted =
+  drawn_accepted =
       let sized = eqb (length (joined_in j)) (size_of c) in
       let fine = allowed c (split_all (layout c) (joined_in j)) in
       let stopped = blocked c (split_all (layout c) (joined_in j)) j.ruling.kept.mode in
       cond_cases Gives (eqb j.ruling.accepts holds)
-      (λ h o. drawn-write false o (Hold c) refl h refl)
+      (λ h o. drawn_write false o (Hold c) refl h refl)
       (λ _.
       cond_cases Gives (eqb j.ruling.accepts writes)
       (λ h a.
       let w : (sized && fine && not stopped) ≡ true = and_right (in_order c j) _ a in
       let g = and_left (sized && fine) _ w in
-      drawn-write true (and_left _ _ a) (Write (value_from c (split_all (layout c) (joined_in j))))
+      drawn_write true (and_left _ _ a) (Write (value_from c (split_all (layout c) (joined_in j))))
       (rw (and_left sized fine g, and_right sized fine g, not-true stopped (and_right (sized && fine) _ w))) h refl)
-      (λ _. cond_cases Gives (eqb j.ruling.accepts reads) drawn-read (λ _ a. never a)))
+      (λ _. cond_cases Gives (eqb j.ruling.accepts reads) drawn_read (λ _ a. never a)))
     where
       Gives : Bool → Type 0
       Gives b = b ≡ true → Drawn j
@@ -284,4 +284,4 @@ found_drawn j m h = go (command_for j) refl (and_right first _ h)
     go Unknown e a = never a
     go (Known c) e a =
         let r = all_of_four (eqb j.ruling.codes 0) (eqb j.ruling.wrong no_wrong) (kept_in_rule j) (joined_in_rule j) (and_left first _ h) in
-        drawn-accepted j m (eqb-true j.ruling.codes 0 r.0) (eqb-true j.ruling.wrong no_wrong r.1) r.2 r.3 c e a
+        drawn_accepted j m (eqb-true j.ruling.codes 0 r.0) (eqb-true j.ruling.wrong no_wrong r.1) r.2 r.3 c e a

@@ -30,8 +30,8 @@ use Rattle.command.proofs.Refusals.{controller_out}
 use Rattle.command.proofs.Demand2.{alone, is_packet}
 use Rattle.command.proofs.faults.Laws.{codes_ascending, listed_here, listed_later, listed_cases}
 use Rattle.command.proofs.carrying.Laws.{no_codes}
-use Rattle.command.proofs.asking.Ways.{let_pass, carry-ways}
-use Rattle.command.proofs.asking.Carried.{one_packet_lem, never-forged}
+use Rattle.command.proofs.asking.Ways.{let_pass, carry_ways}
+use Rattle.command.proofs.asking.Carried.{one_packet_lem, never_forged}
 use Rattle.command.proofs.asking.Drawn.{found_drawn}
 
 passes : (c : Controller) → (OutOfRule c → ⊥) → in_rule c ≡ true
@@ -56,13 +56,13 @@ no_number h = let z : ◌≡◌ {A = ℕ} 0 1 = cc in omega arith
 
 -- The judge call: the ways it goes.
 module _ (c : Controller) (b : List ℕ) (lent : JudgementRecord) where
-  pub asked-ways : (P : Judging → Type 0)
+  pub asked_ways : (P : Judging → Type 0)
       → (OutOfRule c → P (refused_with 3 lent))
       → ((OutOfRule c → ⊥) → (OnePacket b → ⊥) → P (refused_with 5 lent))
       → ((OutOfRule c → ⊥) → OnePacket b → P (judged_as c b (judged (state_of c) b) lent))
       → P (judge_call c b lent)
   unfolding judge_call
-  asked-ways P out parts good =
+  asked_ways P out parts good =
       cond_cases P (in_rule c)
       (λ r.
       cond_cases P (one_packet b)
@@ -71,22 +71,22 @@ module _ (c : Controller) (b : List ℕ) (lent : JudgementRecord) where
       (λ r. out ((controller_out c).0 r))
 
   -- `Request5.rule`, `one` and `refuses`
-  pub asked-rule : ((judge_call c b lent).refusal ≡ some 3) ↔ OutOfRule c
-  asked-rule = (
-    asked-ways (λ x. x.refusal ≡ some 3 → OutOfRule c) (λ o _. o) (λ _ _ h. absurd (omega (arith, number h))) (λ _ _ h. absurd (no_number h)),
-    λ o. asked-ways (λ x. x.refusal ≡ some 3) (λ _. refl) (λ h _. absurd (h o)) (λ h _. absurd (h o)),
+  pub asked_rule : ((judge_call c b lent).refusal ≡ some 3) ↔ OutOfRule c
+  asked_rule = (
+    asked_ways (λ x. x.refusal ≡ some 3 → OutOfRule c) (λ o _. o) (λ _ _ h. absurd (omega (arith, number h))) (λ _ _ h. absurd (no_number h)),
+    λ o. asked_ways (λ x. x.refusal ≡ some 3) (λ _. refl) (λ h _. absurd (h o)) (λ h _. absurd (h o)),
   )
 
-  pub asked-one : ((judge_call c b lent).refusal ≡ some 5) ↔ ((OutOfRule c → ⊥) × (OnePacket b → ⊥))
-  asked-one = (
-    asked-ways (λ x. x.refusal ≡ some 5 → (OutOfRule c → ⊥) × (OnePacket b → ⊥))
+  pub asked_one : ((judge_call c b lent).refusal ≡ some 5) ↔ ((OutOfRule c → ⊥) × (OnePacket b → ⊥))
+  asked_one = (
+    asked_ways (λ x. x.refusal ≡ some 5 → (OutOfRule c → ⊥) × (OnePacket b → ⊥))
         (λ _ h. absurd (omega (arith, number h))) (λ o p _. (o, p)) (λ _ _ h. absurd (no_number h)),
-    λ h. asked-ways (λ x. x.refusal ≡ some 5) (λ o. absurd (h.0 o)) (λ _ _. refl) (λ _ o. absurd (h.1 o)),
+    λ h. asked_ways (λ x. x.refusal ≡ some 5) (λ o. absurd (h.0 o)) (λ _ _. refl) (λ _ o. absurd (h.1 o)),
   )
 
-  pub asked-refuses : (n : ℕ) → (judge_call c b lent).refusal ≡ some n → ((n ≡ 3) ⊎ (n ≡ 5)) × (judgement_of c b lent ≡ lent)
-  asked-refuses n =
-      asked-ways (λ x. x.refusal ≡ some n → ((n ≡ 3) ⊎ (n ≡ 5)) × (x.judgement ≡ lent))
+  pub asked_refuses : (n : ℕ) → (judge_call c b lent).refusal ≡ some n → ((n ≡ 3) ⊎ (n ≡ 5)) × (judgement_of c b lent ≡ lent)
+  asked_refuses n =
+      asked_ways (λ x. x.refusal ≡ some n → ((n ≡ 3) ⊎ (n ≡ 5)) × (x.judgement ≡ lent))
       (λ _ h. (inl (sym (number h)), refl)) (λ _ _ h. (inr (sym (number h)), refl)) (λ _ _ h. absurd (no_number h))
 
 -- The codes of a record are the bits of its number: the numbers from i on, k of them, that pass a test.
@@ -139,10 +139,10 @@ nil_test (x ∷ l) = (λ h. never h, λ h. let z : ◌≡◌ {A = ℕ} 0 1 = cc 
 drawn_genuine : (j : JudgementRecord) → Drawn j → forged j ≡ false
 drawn_genuine j g =
     let one : OnePacket g.packet =
-    asked-ways g.controller g.packet j (λ x. x.refusal ≡ none → OnePacket g.packet)
+    asked_ways g.controller g.packet j (λ x. x.refusal ≡ none → OnePacket g.packet)
     (λ o. absurd (let_pass g.controller g.ready.rule o)) (λ _ _ h. absurd (no_number (sym h))) (λ _ o _. o)
     (ap (λ (x : Judging). x.refusal) g.draws) in
-    ap forged (sym (ap (λ (x : Judging). x.judgement) g.draws)) ∙ never-forged g.controller g.packet j g.ready one
+    ap forged (sym (ap (λ (x : Judging). x.judgement) g.draws)) ∙ never_forged g.controller g.packet j g.ready one
 
 -- one that is forged has no code
 forged_uncoded : (j : JudgementRecord) → forged j ≡ true → Uncoded j
@@ -151,16 +151,16 @@ forged_uncoded j h = (nil_test (codes_in (meant j))).0 (and_left _ (not (drawabl
 
 -- and no packet draws it
 module _ (j : JudgementRecord) (m : Made j) where
-  pub forged-exactly : (forged j ≡ true) ↔ (Uncoded j × (Drawn j → ⊥))
-  forged-exactly = (
+  pub forged_exactly : (forged j ≡ true) ↔ (Uncoded j × (Drawn j → ⊥))
+  forged_exactly = (
     λ h. (forged_uncoded j h, λ g. never (sym (drawn_genuine j g) ∙ h)),
     λ h. unfold forged in
         and_both _ _ ((nil_test (codes_in (meant j))).1 h.0)
         (ap not (bool_cases (drawable j) (λ e. absurd (h.1 (found_drawn j m e))) (λ e. e))),
   )
 
-  pub not-forged : (forged j ≡ false) ↔ ((Uncoded j → ⊥) ⊎ Drawn j)
-  not-forged = (
+  pub not_forged : (forged j ≡ false) ↔ ((Uncoded j → ⊥) ⊎ Drawn j)
+  not_forged = (
     λ h. unfold forged in
         and_cases (is_nil (codes_in (meant j))) (not (drawable j))
         (λ e. inl (λ u. never (sym e ∙ (nil_test (codes_in (meant j))).1 u))) (λ e. inr (found_drawn j m (not_false _ e))) h,
@@ -169,60 +169,60 @@ module _ (j : JudgementRecord) (m : Made j) where
 
 module _ (c : Controller) (j : JudgementRecord) (out : List ℕ) where
   -- `Request5.short`, `outside`, `forged`, `stale` and `untouched`
-  pub carry-short : ((carry_call c j out).answer ≡ Refuses 1) ↔ (length out < 64)
-  carry-short = (
-    carry-ways c j out (λ x. With 1 x → length out < 64) (λ l _. l) (λ _ _. other_number 3 1 refl) (λ _ _ _. other_number 2 1 refl)
+  pub carry_short : ((carry_call c j out).answer ≡ Refuses 1) ↔ (length out < 64)
+  carry_short = (
+    carry_ways c j out (λ x. With 1 x → length out < 64) (λ l _. l) (λ _ _. other_number 3 1 refl) (λ _ _ _. other_number 2 1 refl)
         (λ _ _ _ _. other_number 4 1 refl) (λ _ _ _ _. no_refusal),
     λ l. unfold carry_call in rw (lt-ltb (length out) 64 l),
   )
 
-  pub carry-outside : ((carry_call c j out).answer ≡ Refuses 3) ↔ ((64 ≤ length out) × OutOfRule c)
-  carry-outside = (
-    carry-ways c j out (λ x. With 3 x → (64 ≤ length out) × OutOfRule c) (λ _. other_number 1 3 refl) (λ l o _. (l, o)) (λ _ _ _. other_number 2 3 refl)
+  pub carry_outside : ((carry_call c j out).answer ≡ Refuses 3) ↔ ((64 ≤ length out) × OutOfRule c)
+  carry_outside = (
+    carry_ways c j out (λ x. With 3 x → (64 ≤ length out) × OutOfRule c) (λ _. other_number 1 3 refl) (λ l o _. (l, o)) (λ _ _ _. other_number 2 3 refl)
         (λ _ _ _ _. other_number 4 3 refl) (λ _ _ _ _. no_refusal),
     λ h. unfold carry_call in rw (le-ltb (length out) 64 h.0, (controller_out c).1 h.1),
   )
 
-  pub carry-forged : Made j → ((carry_call c j out).answer ≡ Refuses 2) ↔ ((64 ≤ length out) × (OutOfRule c → ⊥) × Uncoded j × (Drawn j → ⊥))
-  carry-forged m = (
-    carry-ways c j out (λ x. With 2 x → (64 ≤ length out) × (OutOfRule c → ⊥) × Uncoded j × (Drawn j → ⊥)) (λ _. other_number 1 2 refl)
-        (λ _ _. other_number 3 2 refl) (λ l o f _. let g = (forged-exactly j m).0 f in (l, o, g.0, g.1))
+  pub carry_forged : Made j → ((carry_call c j out).answer ≡ Refuses 2) ↔ ((64 ≤ length out) × (OutOfRule c → ⊥) × Uncoded j × (Drawn j → ⊥))
+  carry_forged m = (
+    carry_ways c j out (λ x. With 2 x → (64 ≤ length out) × (OutOfRule c → ⊥) × Uncoded j × (Drawn j → ⊥)) (λ _. other_number 1 2 refl)
+        (λ _ _. other_number 3 2 refl) (λ l o f _. let g = (forged_exactly j m).0 f in (l, o, g.0, g.1))
         (λ _ _ _ _. other_number 4 2 refl) (λ _ _ _ _. no_refusal),
-    λ h. unfold carry_call in rw (le-ltb (length out) 64 h.0, passes c h.1, (forged-exactly j m).1 (h.2, h.3)),
+    λ h. unfold carry_call in rw (le-ltb (length out) 64 h.0, passes c h.1, (forged_exactly j m).1 (h.2, h.3)),
   )
 
-  pub carry-stale : Made j
+  pub carry_stale : Made j
       → ((carry_call c j out).answer ≡ Refuses 4) ↔ ((64 ≤ length out) × (OutOfRule c → ⊥) × ((Uncoded j → ⊥) ⊎ Drawn j) × (items_of c ≡ items_kept j → ⊥))
-  carry-stale m = (
-    carry-ways c j out (λ x. With 4 x → (64 ≤ length out) × (OutOfRule c → ⊥) × ((Uncoded j → ⊥) ⊎ Drawn j) × (items_of c ≡ items_kept j → ⊥))
+  carry_stale m = (
+    carry_ways c j out (λ x. With 4 x → (64 ≤ length out) × (OutOfRule c → ⊥) × ((Uncoded j → ⊥) ⊎ Drawn j) × (items_of c ≡ items_kept j → ⊥))
         (λ _. other_number 1 4 refl) (λ _ _. other_number 3 4 refl) (λ _ _ _. other_number 2 4 refl)
-        (λ l o f s _. (l, o, (not-forged j m).0 f, s)) (λ _ _ _ _. no_refusal),
-    λ h. carry-ways c j out (With 4) (λ l. absurd (omega (arith, h.0))) (λ _ o. absurd (h.1 o)) (λ _ _ f. never (sym ((not-forged j m).1 h.2) ∙ f))
+        (λ l o f s _. (l, o, (not_forged j m).0 f, s)) (λ _ _ _ _. no_refusal),
+    λ h. carry_ways c j out (With 4) (λ l. absurd (omega (arith, h.0))) (λ _ o. absurd (h.1 o)) (λ _ _ f. never (sym ((not_forged j m).1 h.2) ∙ f))
         (λ _ _ _ _. refl) (λ _ _ _ s. absurd (h.3 s)),
   )
 
-  pub carry-untouched : (n : ℕ) → (carry_call c j out).answer ≡ Refuses n
+  pub carry_untouched : (n : ℕ) → (carry_call c j out).answer ≡ Refuses n
       → (1 ≤ n) × (n ≤ 4) × (carry_call c j out ≡ record { answer = Refuses n; controller = c; output = out })
-  carry-untouched n =
-      carry-ways c j out (λ x. With n x → (1 ≤ n) × (n ≤ 4) × (x ≡ refused n c out)) (λ _. same 1 (omega arith) (omega arith))
+  carry_untouched n =
+      carry_ways c j out (λ x. With n x → (1 ≤ n) × (n ≤ 4) × (x ≡ refused n c out)) (λ _. same 1 (omega arith) (omega arith))
       (λ _ _. same 3 (omega arith) (omega arith)) (λ _ _ _. same 2 (omega arith) (omega arith)) (λ _ _ _ _. same 4 (omega arith) (omega arith))
       (λ _ _ _ _. no_refusal)
     where
       same : (k : ℕ) → 1 ≤ k → k ≤ 4 → Refuses k ≡ Refuses n → (1 ≤ n) × (n ≤ 4) × (refused k c out ≡ refused n c out)
       same k m l h = (omega (arith, outcome_number h), omega (arith, outcome_number h), ap (λ (i : ℕ). refused i c out) (outcome_number h))
 
-  pub carry-answers : Made j → 64 ≤ length out → (OutOfRule c → ⊥) → (Uncoded j → ⊥) ⊎ Drawn j → items_of c ≡ items_kept j → carry_call c j out ≡ carries c j out
-  carry-answers m l o d s =
-      carry-ways c j out (λ x. x ≡ carries c j out) (λ h. absurd (omega arith)) (λ _ r. absurd (o r))
-      (λ _ _ f. never (sym ((not-forged j m).1 d) ∙ f)) (λ _ _ _ n. absurd (n s)) (λ _ _ _ _. refl)
+  pub carry_answers : Made j → 64 ≤ length out → (OutOfRule c → ⊥) → (Uncoded j → ⊥) ⊎ Drawn j → items_of c ≡ items_kept j → carry_call c j out ≡ carries c j out
+  carry_answers m l o d s =
+      carry_ways c j out (λ x. x ≡ carries c j out) (λ h. absurd (omega arith)) (λ _ r. absurd (o r))
+      (λ _ _ f. never (sym ((not_forged j m).1 d) ∙ f)) (λ _ _ _ n. absurd (n s)) (λ _ _ _ _. refl)
 
 -- what the judge call gives is never refused with 2
 pub carry_genuine : (c d : Controller) (p : List ℕ) (lent : JudgementRecord) (out : List ℕ) → Ready c → OnePacket p
     → (carry_call d (judgement_of c p lent) out).answer ≡ Refuses 2
     → ⊥
 carry_genuine c d p lent out r o =
-    carry-ways d (judgement_of c p lent) out (λ x. With 2 x → ⊥) (λ _. other_number 1 2 refl) (λ _ _. other_number 3 2 refl)
-    (λ _ _ f _. never (sym (never-forged c p lent r o) ∙ f)) (λ _ _ _ _. other_number 4 2 refl) (λ _ _ _ _. no_refusal)
+    carry_ways d (judgement_of c p lent) out (λ x. With 2 x → ⊥) (λ _. other_number 1 2 refl) (λ _ _. other_number 3 2 refl)
+    (λ _ _ f _. never (sym (never_forged c p lent r o) ∙ f)) (λ _ _ _ _. other_number 4 2 refl) (λ _ _ _ _. no_refusal)
 
 -- A judgement with error codes is an error: what says how a packet is accepted has none.
 pub meant_coded : (j : JudgementRecord) → (Uncoded j → ⊥) → meant j ≡ Error (codes_told j.ruling.codes)
@@ -233,7 +233,7 @@ meant_coded j u =
 pub carry_coded : (c : Controller) (j : JudgementRecord) (out : List ℕ) → Ready c → 64 ≤ length out → (Uncoded j → ⊥) → items_of c ≡ items_kept j
     → SendsCodes c j out (carry_call c j out)
 carry_coded c j out r l u s =
-    carry-ways c j out (SendsCodes c j out) (λ h. absurd (omega arith)) (λ _ o. absurd (let_pass c r.rule o))
+    carry_ways c j out (SendsCodes c j out) (λ h. absurd (omega arith)) (λ _ o. absurd (let_pass c r.rule o))
     (λ _ _ f. absurd (u (forged_uncoded j f))) (λ _ _ _ n. absurd (n s)) (λ _ _ _ _. sends)
   where
     sends : SendsCodes c j out (carries c j out)

@@ -42,16 +42,16 @@ use Rattle.command.proofs.value.Laws.{command_from, values_from}
 use Rattle.command.proofs.judgement.Laws.{Sound}
 use Rattle.command.proofs.carry.Laws.{Bounded}
 use Rattle.command.proofs.controller.Laws.{rule_parts, rule_whole}
-use Rattle.command.proofs.endpoint.Laws.{received_by, ready_carried, endpoint-streams, at_once}
+use Rattle.command.proofs.endpoint.Laws.{received_by, ready_carried, endpoint_streams, at_once}
 use Rattle.command.proofs.endpoint.Boundary.{takes_part, between_of, follows_played}
-use Rattle.command.proofs.asking.Ways.{carry-ways}
+use Rattle.command.proofs.asking.Ways.{carry_ways}
 
 -- what holds of a controller, and of what is carried out on it, holds of what the call leaves
 carry_leaves : (P : Controller → Type 0) (c : Controller) (j : JudgementRecord) (out : List ℕ) → P c
     → (forged j ≡ false → items_of c ≡ items_kept j → P (carries c j out).controller)
     → P (carry_call c j out).controller
 carry_leaves P c j out k f =
-    carry-ways c j out (λ (r : Carrying). P r.controller) (λ _. k) (λ _ _. k) (λ _ _ _. k) (λ _ _ _ _. k) (λ _ _ g s. f g s)
+    carry_ways c j out (λ (r : Carrying). P r.controller) (λ _. k) (λ _ _. k) (λ _ _ _. k) (λ _ _ _ _. k) (λ _ _ g s. f g s)
 
 -- It leaves the receiver.
 pub half_stays : (c : Controller) (j : JudgementRecord) (out : List ℕ) → receiver_in (carry_call c j out).controller ≡ receiver_in c
@@ -71,9 +71,9 @@ module _ (j : JudgementRecord) where
     joined : joined_in_rule j ≡ true
     accepted : acceptable (command_for j) j ≡ true
 
-  drawable-parts : drawable j ≡ true → Drawable
+  drawable_parts : drawable j ≡ true → Drawable
   unfolding drawable
-  drawable-parts h =
+  drawable_parts h =
       let k = eqb j.ruling.codes 0 && eqb j.ruling.wrong no_wrong && kept_in_rule j in
       let d = acceptable (command_for j) j in
       record { joined = and_right k (joined_in_rule j) (and_left (k && joined_in_rule j) d h); accepted = and_right (k && joined_in_rule j) d h }
@@ -81,7 +81,7 @@ module _ (j : JudgementRecord) where
   -- there is room for its data
   room : drawable j ≡ true → held_in (transfer_kept j) + length (brought_in j) ≤ 1024
   room h =
-      let d = (drawable-parts h).joined in
+      let d = (drawable_parts h).joined in
       let n = leb-true (held_in (transfer_kept j)) j.ruling.count (and_left _ _ d) in
       let m = leb-true j.ruling.count 1024 (and_right (leb (held_in (transfer_kept j)) j.ruling.count) _ d) in
       omega (arith, n, m, length-drop (held_in (transfer_kept j)) (joined_in j), length-take j.ruling.count j.joined)
@@ -101,22 +101,22 @@ module _ (j : JudgementRecord) where
         free = not-true (blocked c v j.ruling.kept.mode) (and_right (n && a) b w);
       })
 
-  accepted-may : (f : Found) → command_for j ≡ f → Claim (accepted_as f j)
-  accepted-may Unknown e = λ _. (tt, tt)
-  accepted-may (Known c) e =
+  accepted_may : (f : Found) → command_for j ≡ f → Claim (accepted_as f j)
+  accepted_may Unknown e = λ _. (tt, tt)
+  accepted_may (Known c) e =
       cond_cases Claim (eqb j.ruling.accepts holds)
       (λ _ d. (tt, room (d refl)))
       (λ a. cond_cases Claim (eqb j.ruling.accepts writes)
       (λ b d.
-      let y = (drawable-parts (d refl)).accepted in
+      let y = (drawable_parts (d refl)).accepted in
       let x : (in_order c j && writable c j.ruling.kept.mode (joined_in j)) ≡ true = rw (e, a, b) at y in
       (may_write c (and_right (in_order c j) _ x), tt))
       (λ _. cond_cases Claim (eqb j.ruling.accepts reads) (λ _ _. (tt, tt)) (λ _ _. (tt, tt))))
 
-  meant-may : forged j ≡ false → May (meant j)
+  meant_may : forged j ≡ false → May (meant j)
   unfolding forged meant
-  meant-may h =
-      cond_cases Claim (eqb j.ruling.codes 0) (λ _. accepted-may (command_for j) refl) (λ _ _. (tt, tt))
+  meant_may h =
+      cond_cases Claim (eqb j.ruling.codes 0) (λ _. accepted_may (command_for j) refl) (λ _ _. (tt, tt))
       (λ u. not_false (drawable j) (sym (ap (λ b. b && not (drawable j)) u) ∙ h))
 
 -- A controller in rule stays so.
@@ -124,7 +124,7 @@ pub rule_stays : (c : Controller) (j : JudgementRecord) (out : List ℕ) → Rea
 rule_stays c j out k =
     carry_leaves Ready c j out k
     (λ f s.
-    let m = meant-may j f in
+    let m = meant_may j f in
     ready_carried c (receiver_in c) (brought_in j) (length (brought_in j)) (meant j) k k.header k.hold
     (rule_parts c.settings c.registers k.rule).packet
     (rw (ap (λ (i : Items). i.mode) s) m.0) (omega arith) (rw (ap (λ (i : Items). i.count) s) m.1))
@@ -144,9 +144,9 @@ module _ (d : Controller) (k : Ready d) (base : Receiver) (z : base.received ≡
   abbrev before : Controller
   before = received_by d base
 
-  before-boundary : Boundary before
+  before_boundary : Boundary before
   unfolding with packet_in_rule
-  before-boundary =
+  before_boundary =
       let r = rule_parts d.settings d.registers k.rule in
       record {
         ready =
@@ -171,22 +171,22 @@ module _ (d : Controller) (k : Ready d) (base : Receiver) (z : base.received ≡
     unfolding joined
     together = record { pieces = (x ++ b) ∷ []; bytes = append-nil (x ++ b); outs = t.outs; room = t.room }
 
-    sent-together : sent_to before together ≡ sent_to d t
+    sent_together : sent_to before together ≡ sent_to d t
     unfolding receiverWaiting
-    sent-together =
+    sent_together =
         let out = t.outs 0 in
         let l = t.room 0 in
-        let q = before-boundary in
+        let q = before_boundary in
         let w = takes_part (t.outs 0) (t.room 0) before q.ready (between_of q) x h in
         let s : (receive_call before x (t.outs 0)).controller ≡ d = ap (λ (r : After). r.controller) w ∙ ap (received_by d) (sym e) in
         ap responses_in
         (at_once out l before (x ++ b) together q.ready
-        ∙ goes_on (serves out) Ready (endpoint-streams out l) before x b q.ready (ap (λ (r : After). (shown r).gives) w)
+        ∙ goes_on (serves out) Ready (endpoint_streams out l) before x b q.ready (ap (λ (r : After). (shown r).gives) w)
         ∙ ap (λ (c : Controller). served_one (serves out) c b) s
         ∙ sym (at_once out l d b t k))
 
-    goes-played : Follows before (x ++ b) (sent_to d t)
-    goes-played = subst (Follows before (x ++ b)) sent-together (follows_played before (x ++ b) together before-boundary)
+    goes_played : Follows before (x ++ b) (sent_to d t)
+    goes_played = subst (Follows before (x ++ b)) sent_together (follows_played before (x ++ b) together before_boundary)
 
 -- Over a run.
 pub run_follows : (c : Controller) (x b : List ℕ) (t : Sending b) → HalfReceived c x
@@ -194,5 +194,5 @@ pub run_follows : (c : Controller) (x b : List ℕ) (t : Sending b) → HalfRece
     × (state_of (sent_to c t).state ≡ after (state_of c) (packets (x ++ b)))
     × HalfReceived (sent_to c t).state (rest (x ++ b))
 run_follows c x b t h =
-    let f = goes-played c h.ready h.base h.boundary x h.came h.few b t in
+    let f = goes_played c h.ready h.base h.boundary x h.came h.few b t in
     (f.given, f.ends, record { ready = f.ready; base = f.base; boundary = f.boundary; came = f.unfinished; few = rest_short (x ++ b) })

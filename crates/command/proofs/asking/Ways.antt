@@ -71,7 +71,7 @@ let_pass c h o = never (sym ((controller_out c).1 o) ∙ h)
 
 -- The call.
 module _ (c : Controller) (j : JudgementRecord) (out : List ℕ) where
-  pub carry-ways : (P : Carrying → Type 0)
+  pub carry_ways : (P : Carrying → Type 0)
       → (length out < 64 → P (refused 1 c out))
       → (64 ≤ length out → OutOfRule c → P (refused 3 c out))
       → (64 ≤ length out → (OutOfRule c → ⊥) → forged j ≡ true → P (refused 2 c out))
@@ -79,7 +79,7 @@ module _ (c : Controller) (j : JudgementRecord) (out : List ℕ) where
       → (64 ≤ length out → (OutOfRule c → ⊥) → forged j ≡ false → items_of c ≡ items_kept j → P (carries c j out))
       → P (carry_call c j out)
   unfolding carry_call
-  carry-ways P short outside bad stale good =
+  carry_ways P short outside bad stale good =
       cond_cases P (ltb (length out) 64)
       (λ l. short (ltb-true (length out) 64 l))
       (λ l.

@@ -18,7 +18,7 @@ use Rattle.command.specs.declared.transfer.TransferState.{TransferState}
 use Rattle.command.specs.declared.judgement.Judgement.{Judgement}
 use Rattle.command.specs.declared.judgement.Judgement.TheVariants.{Error, Hold, Write, Read}
 use Rattle.command.proofs.table.Laws.{found}
-use Rattle.command.proofs.transfer.Laws.{fits_hold, count_most, held-most, held_is}
+use Rattle.command.proofs.transfer.Laws.{fits_hold, count_most, held_most, held_is}
 use Rattle.command.proofs.judgement.Laws.{judge_cases}
 
 -- A transfer that is added to keeps within 1,024 bytes.
@@ -54,7 +54,7 @@ transfer_kept_lem t body n (Read c) l r b = r
 -- the count of held bytes fits its field, whatever the judgement
 pub count_fits : (t : TransferState) (body : List ℕ) (j : Judgement) → transfer_in_rule t ≡ true → length body ≤ 1024 → (transfer_state_after t body j).held < 65536
 count_fits t body (Error k) r l = omega arith
-count_fits t body (Hold c) r l = omega (arith, held-most t r)
+count_fits t body (Hold c) r l = omega (arith, held_most t r)
 count_fits t body (Write v) r l = omega arith
 count_fits t body (Read c) r l = omega (arith, count_most t r)
 

@@ -37,7 +37,7 @@ use Rattle.command.specs.declared.judgement.Judgement.TheVariants.{Error, Write,
 use Rattle.command.specs.declared.ruling.Ruling.{Ruling}
 use Rattle.command.specs.declared.ruling.JudgementRecord.{JudgementRecord}
 use Rattle.command.proofs.faults.Laws.{any_code_lem}
-use Rattle.command.proofs.transfer.Laws.{open_is, open-for-is}
+use Rattle.command.proofs.transfer.Laws.{open_is, open_for_is}
 
 -- Bytes from a place on are the same where the two at it are, and those behind them.
 pub same_more : (a b : List ℕ) (i : ℕ) → length a ≡ length b → i < length a
@@ -128,45 +128,45 @@ in_rule_lem n r =
 
 module _ (n : Ruling) (d : List ℕ) where
   -- the tests of the numbers, and then that of the command
-  drawable-is : drawable (record_of n d) ≡ (eqb n.codes 0 && (ruling_in_rule n && acceptable (command_for (record_of n d)) (record_of n d)))
+  drawable_is : drawable (record_of n d) ≡ (eqb n.codes 0 && (ruling_in_rule n && acceptable (command_for (record_of n d)) (record_of n d)))
   unfolding drawable
-  drawable-is = simp and_assoc
+  drawable_is = simp and_assoc
 
   -- a record without codes is drawn where they hold
-  drawn-is : eqb n.codes 0 ≡ true
+  drawn_is : eqb n.codes 0 ≡ true
       → drawn (record_of n d) ≡ cond (ruling_in_rule n && acceptable (command_for (record_of n d)) (record_of n d)) (some (accepted_as (command_for (record_of n d)) (record_of n d))) none
   unfolding forged meant
-  drawn-is e =
-      rw (drawable-is, e, no_codes (command_for (record_of n d)) (record_of n d))
+  drawn_is e =
+      rw (drawable_is, e, no_codes (command_for (record_of n d)) (record_of n d))
       (bool_cases (ruling_in_rule n && acceptable (command_for (record_of n d)) (record_of n d)) (λ f. rw f) (λ f. rw f))
 
-  pub drawn-out : eqb n.codes 0 ≡ true → ruling_in_rule n ≡ false → drawn (record_of n d) ≡ none
-  drawn-out e r = drawn-is e ∙ rw r
+  pub drawn_out : eqb n.codes 0 ≡ true → ruling_in_rule n ≡ false → drawn (record_of n d) ≡ none
+  drawn_out e r = drawn_is e ∙ rw r
 
-  pub drawn-unknown : eqb n.codes 0 ≡ true → command_of n.cmd1 n.cmd2 ≡ Unknown → drawn (record_of n d) ≡ none
-  drawn-unknown e u = drawn-is e ∙ rw (u, and-false (ruling_in_rule n))
+  pub drawn_unknown : eqb n.codes 0 ≡ true → command_of n.cmd1 n.cmd2 ≡ Unknown → drawn (record_of n d) ≡ none
+  drawn_unknown e u = drawn_is e ∙ rw (u, and-false (ruling_in_rule n))
 
   -- for a command
   module _ (c : Command) (r : transfer_in_rule (transfer_of_kept n.kept) ≡ true) where
-    in-order-is : in_order c (record_of n d) ≡ (eqb n.kept.active 0 || open_for_in (Known c) (transfer_of_kept n.kept))
-    in-order-is =
+    in_order_is : in_order c (record_of n d) ≡ (eqb n.kept.active 0 || open_for_in (Known c) (transfer_of_kept n.kept))
+    in_order_is =
         let t = transfer_of_kept n.kept in
-        rw (open_is t r d, open-for-is t r d (Known c), not-not (eqb n.kept.active 0))
+        rw (open_is t r d, open_for_is t r d (Known c), not-not (eqb n.kept.active 0))
 
-    accepted-is : accepted_by c n (take n.count d) ≡ cond (acceptable (Known c) (record_of n d)) (some (accepted_as (Known c) (record_of n d))) none
-    accepted-is =
+    accepted_is : accepted_by c n (take n.count d) ≡ cond (acceptable (Known c) (record_of n d)) (some (accepted_as (Known c) (record_of n d))) none
+    accepted_is =
         bool_cases (eqb n.accepts holds)
-        (λ e. rw (eqb-true n.accepts holds e, in-order-is))
+        (λ e. rw (eqb-true n.accepts holds e, in_order_is))
         (λ e. rw e (bool_cases (eqb n.accepts writes)
-        (λ f. rw (eqb-true n.accepts writes f, in-order-is, write_is c n.kept.mode (take n.count d))
+        (λ f. rw (eqb-true n.accepts writes f, in_order_is, write_is c n.kept.mode (take n.count d))
         (bool_cases (eqb n.kept.active 0 || open_for_in (Known c) (transfer_of_kept n.kept)) (λ g. rw g) (λ g. rw g)))
         (λ f. rw f (bool_cases (eqb n.accepts reads)
         (λ g. rw (g, open_is (transfer_of_kept n.kept) r d, not-not (eqb n.kept.active 0)))
         (λ g. rw g)))))
 
-  pub drawn-known : (c : Command) → eqb n.codes 0 ≡ true → command_of n.cmd1 n.cmd2 ≡ Known c → ruling_in_rule n ≡ true
+  pub drawn_known : (c : Command) → eqb n.codes 0 ≡ true → command_of n.cmd1 n.cmd2 ≡ Known c → ruling_in_rule n ≡ true
       → drawn (record_of n d) ≡ accepted_by c n (take n.count d)
-  drawn-known c e k r = drawn-is e ∙ rw (k, r) (sym (accepted-is c (in_rule_lem n r).transfer))
+  drawn_known c e k r = drawn_is e ∙ rw (k, r) (sym (accepted_is c (in_rule_lem n r).transfer))
 
 -- Carrying out.
 
@@ -204,31 +204,31 @@ module _
       (sym (same_items_lem s.mode n.kept.mode t k buffer d) ∙ i)))
 
   -- data that are held are drawn by a packet, and are in rule
-  held-in-rule : (c : Command) → meant (record_of n d) ≡ Hold c → InRule n
+  held_in_rule : (c : Command) → meant (record_of n d) ≡ Hold c → InRule n
   unfolding forged
-  held-in-rule c e =
+  held_in_rule c e =
       let a = acceptable (command_for (record_of n d)) (record_of n d) in
       in_rule_lem n
       (and_left (ruling_in_rule n) a
-      (and_right (eqb n.codes 0) (ruling_in_rule n && a) (sym (drawable-is n d) ∙ not_false (drawable (record_of n d)) (rw e at f))))
+      (and_right (eqb n.codes 0) (ruling_in_rule n && a) (sym (drawable_is n d) ∙ not_false (drawable (record_of n d)) (rw e at f))))
 
   -- what the code leaves is what the call leaves
-  pub carries-is : {p : Performed} {buffer' out' out : List ℕ} → Carries p buffer' out' s r buffer n d (meant (record_of n d)) out
+  pub carries_is : {p : Performed} {buffer' out' out : List ℕ} → Carries p buffer' out' s r buffer n d (meant (record_of n d)) out
       → performed_of p buffer' out' ≡ carries (without_hold s r buffer) (record_of n d) out
   unfolding response_for
-  carries-is {p} {buffer'} {out'} {out} w =
+  carries_is {p} {buffer'} {out'} {out} w =
       let b = brought_for (meant (record_of n d)) (transfer_of r) buffer (drop (held_in (transfer_of r)) (take w.end d)) (brought_in (record_of n d)) brought in
       rw (w.answer, w.settings, w.registers, w.held, w.output, b.0, b.1)
     where
       brought : (c : Command) → meant (record_of n d) ≡ Hold c → drop (held_in (transfer_of r)) (take w.end d) ≡ brought_in (record_of n d)
       brought c e =
-          let k = held-in-rule c e in
+          let k = held_in_rule c e in
           rw (w.known (omega (arith, held_kept, k.least)) k.most, held_kept)
 
-  pub carry-call : (out : List ℕ) → 64 ≤ length out → in_rule (without_hold s r buffer) ≡ true
+  pub carry_call_lem : (out : List ℕ) → 64 ≤ length out → in_rule (without_hold s r buffer) ≡ true
       → carry_call (without_hold s r buffer) (record_of n d) out ≡ carries (without_hold s r buffer) (record_of n d) out
   unfolding carry_call
-  carry-call out l e = rw (le-ltb (length out) 64 l, e, f, i)
+  carry_call_lem out l e = rw (le-ltb (length out) 64 l, e, f, i)
 
 -- The call neither looks at the payload of a packet that is coming in, nor touches it.
 pub hold_passed : (c : Controller) (j : JudgementRecord) (out : List ℕ)

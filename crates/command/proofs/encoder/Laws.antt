@@ -11,7 +11,7 @@ use Rattle.packet.specs.Number.{Bytes}
 use Rattle.packet.specs.Packet.{type_of, cmd1_of, cmd2_of, flags_of, payload_length, payload, sum, sealed, packet_of, host_write, host_read, whole}
 use Rattle.packet.proofs.NumberLaws.{bytes_take, bytes_drop}
 use Rattle.packet.proofs.StreamLaws.{IsPacket}
-use Rattle.packet.proofs.WriterLaws.{length-written, packet-written, payload-written, sum-written, packet_remade}
+use Rattle.packet.proofs.WriterLaws.{length_written, packet_written, payload_written, sum_written, packet_remade}
 use Rattle.command.specs.Table.{cmd1_for, cmd2_for, command_of, is_known, can_read, layout, size_of}
 use Rattle.command.specs.Settings.{store}
 use Rattle.command.specs.Rules.{allowed, blocked}
@@ -43,7 +43,7 @@ packet_with type cmd1 cmd2 flags d =
 
 pub arrived_written : (type cmd1 cmd2 flags : ℕ) (d : List ℕ) → length d ≤ 65535 → arrived (packet_of type cmd1 cmd2 flags d) ≡ packet_with type cmd1 cmd2 flags d
 arrived_written type cmd1 cmd2 flags d h =
-    rw (length-written type cmd1 cmd2 flags d h, sum-written type cmd1 cmd2 flags d h, payload-written type cmd1 cmd2 flags d h)
+    rw (length_written type cmd1 cmd2 flags d h, sum_written type cmd1 cmd2 flags d h, payload_written type cmd1 cmd2 flags d h)
     (unfold packet_of sealed in refl)
 
 -- one without flags that this layer makes
@@ -63,35 +63,35 @@ module _ (type : ℕ) (c : Command) (d : List ℕ) (w : wrong_command (Known c) 
   unfolding judge judge_as
   alone mode = rw (found c, no_faults_lem)
 
-  pub judge-plain : (mode : ℕ) → judge mode Closed (arrived (packet_of type (cmd1_for c) (cmd2_for c) whole d)) ≡ judge_data c mode type whole d
-  judge-plain mode = rw (arrived_plain type c d (omega arith)) (alone mode)
+  pub judge_plain : (mode : ℕ) → judge mode Closed (arrived (packet_of type (cmd1_for c) (cmd2_for c) whole d)) ≡ judge_data c mode type whole d
+  judge_plain mode = rw (arrived_plain type c d (omega arith)) (alone mode)
 
 -- Values of the code's types that are allowed.
 module _ (c : Command) (v : List ℕ) (f : Fit (widths c) v) (a : allowed c v ≡ true) where
   fit : Fit (layout c) v
   fit = fit_data c v a f
 
-  length-data : length (join_all (layout c) v) ≡ size_of c
+  length_data : length (join_all (layout c) v) ≡ size_of c
   unfolding size_of
-  length-data = length_join (layout c) v (fit_length (layout c) v fit)
+  length_data = length_join (layout c) v (fit_length (layout c) v fit)
 
   -- the packet of a legal write is judged as that write; only run 1 outside mode 4 draws 07 instead
-  pub judged-write : (mode : ℕ) → judge mode Closed (arrived (write_packet c (join_all (layout c) v))) ≡ cond (blocked c v mode) (Error mode_fault) (Write (value_from c v))
+  pub judged_write : (mode : ℕ) → judge mode Closed (arrived (write_packet c (join_all (layout c) v))) ≡ cond (blocked c v mode) (Error mode_fault) (Write (value_from c v))
   unfolding write_packet wrong_command judge_data judge_write
-  judged-write mode =
-      judge-plain host_write c (join_all (layout c) v) refl (omega (arith, length-data, size_small c)) mode
-      ∙ rw (eq-eqb (length (join_all (layout c) v)) (size_of c) length-data, split_join (layout c) v fit, a)
+  judged_write mode =
+      judge_plain host_write c (join_all (layout c) v) refl (omega (arith, length_data, size_small c)) mode
+      ∙ rw (eq-eqb (length (join_all (layout c) v)) (size_of c) length_data, split_join (layout c) v fit, a)
 
-  pub write-packet : IsPacket (write_packet c (join_all (layout c) v))
+  pub write_packet_lem : IsPacket (write_packet c (join_all (layout c) v))
   unfolding write_packet
-  write-packet = packet-written host_write (cmd1_for c) (cmd2_for c) whole (join_all (layout c) v) (omega (arith, length-data, size_small c))
+  write_packet_lem = packet_written host_write (cmd1_for c) (cmd2_for c) whole (join_all (layout c) v) (omega (arith, length_data, size_small c))
 
   -- a write that is not blocked is carried out
-  pub next-write : (s : Settings) → blocked c v s.mode ≡ false
+  pub next_write : (s : Settings) → blocked c v s.mode ≡ false
       → (judged (from s) (write_packet c (join_all (layout c) v)) ≡ Write (value_from c v)) × (next (from s) (write_packet c (join_all (layout c) v)) ≡ from (store c v s))
   unfolding judged next
-  next-write s b =
-      let e : judge s.mode Closed (arrived (write_packet c (join_all (layout c) v))) ≡ Write (value_from c v) = judged-write s.mode ∙ rw b in
+  next_write s b =
+      let e : judge s.mode Closed (arrived (write_packet c (join_all (layout c) v))) ≡ Write (value_from c v) = judged_write s.mode ∙ rw b in
       (e, rw (e, command_from c v, values_from c v (fit_length (layout c) v fit)))
 
 -- Demand 2: our own encoder's packet for a legal write, on a head with no transfer open, is judged as that same write; only run 1 outside mode 4 draws 07 instead.
@@ -99,8 +99,8 @@ pub encoder_judged : (v : Value) (s : Settings) → Fit (widths (command_in v)) 
     → IsPacket (encoded v) × (judged (from s) (encoded v) ≡ cond (blocked (command_in v) (values_in v) s.mode) (Error mode_fault) (Write v))
 unfolding encoded data_in judged
 encoder_judged v s f a = (
-  write-packet (command_in v) (values_in v) f a,
-  judged-write (command_in v) (values_in v) f a s.mode
+  write_packet_lem (command_in v) (values_in v) f a,
+  judged_write (command_in v) (values_in v) f a s.mode
       ∙ ap (λ (x : Value). cond (blocked (command_in v) (values_in v) s.mode) (Error mode_fault) (Write x)) (value_from_lem v),
 )
 

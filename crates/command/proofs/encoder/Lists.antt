@@ -8,7 +8,7 @@ use lib.ListN.{length, get_or, take, length-append}
 use Rattle.packet.specs.Packet.{sum, host_write, whole}
 use Rattle.packet.specs.Stream.{packets, rest}
 use Rattle.packet.proofs.StreamLaws.{IsPacket, packets_nil, rest_nil, packets_cons, rest_cons}
-use Rattle.packet.proofs.WriterLaws.{size-written}
+use Rattle.packet.proofs.WriterLaws.{size_written}
 use Rattle.command.specs.Table.{table, cmd1_for, cmd2_for, layout, size_of}
 use Rattle.command.specs.Settings.{values_of, factory, values_after, store}
 use Rattle.command.specs.Rules.{blocked}
@@ -21,7 +21,7 @@ use Rattle.command.proofs.table.Laws.{each, size_small}
 use Rattle.command.proofs.rules.Laws.{Kept, Fits, length_values}
 use Rattle.command.proofs.data.Laws.{length_join}
 use Rattle.command.proofs.value.Laws.{command_from, data_from}
-use Rattle.command.proofs.encoder.Laws.{write-packet, next-write}
+use Rattle.command.proofs.encoder.Laws.{write_packet_lem, next_write}
 
 -- the settings t after the values of s were written with each command of a list
 unfoldable pub store_all : List Command → Settings → Settings → Settings
@@ -52,7 +52,7 @@ data_length c s = length_join (layout c) (values_of c s) (length_values s c)
 write_length : (c : Command) (s : Settings) → length (write_packet c (data_of c s)) ≡ size_of c + 7
 unfolding write_packet
 write_length c s =
-    size-written host_write (cmd1_for c) (cmd2_for c) whole (data_of c s) (omega (arith, data_length c s, size_small c)) ∙ ap (λ (m : ℕ). m + 7) (data_length c s)
+    size_written host_write (cmd1_for c) (cmd2_for c) whole (data_of c s) (omega (arith, data_length c s, size_small c)) ∙ ap (λ (m : ℕ). m + 7) (data_length c s)
 
 pub write_most : (c : Command) (s : Settings) → length (write_packet c (data_of c s)) ≤ 24
 write_most c s = omega (arith, write_length c s, size_small c)
@@ -90,44 +90,44 @@ list_left (c ∷ cs) (suc k) h = omega (arith, list_left cs k (omega arith))
 
 -- by induction over the list of writes
 module _ (s : Settings) (k : Kept s) (f : Fits s) where
-  write-of : (c : Command) → IsPacket (write_packet c (data_of c s))
+  write_of : (c : Command) → IsPacket (write_packet c (data_of c s))
   unfolding data_of
-  write-of c = write-packet c (values_of c s) (f c) (k.values c)
+  write_of c = write_packet_lem c (values_of c s) (f c) (k.values c)
 
   pub plays : (cs : List Command) (t : Settings) → Free cs s t → Plays cs s t
   unfolding play list_of after judgements all_acknowledged store_all data_of
   plays [] t g = record { good = rw packets_nil; ends = rw packets_nil; none = rest_nil }
   plays (c ∷ cs) t g =
-      let cut = packets_cons (write_packet c (data_of c s)) (list_of cs s) (write-of c) in
-      let n = next-write c (values_of c s) (f c) (k.values c) t g.0 in
+      let cut = packets_cons (write_packet c (data_of c s)) (list_of cs s) (write_of c) in
+      let n = next_write c (values_of c s) (f c) (k.values c) t g.0 in
       let i = plays cs (store c (values_of c s) t) g.1 in
       record {
         good = rw (cut, n.1, n.0) i.good;
         ends = ap (after (from t)) cut ∙ ap (λ (x : State). after x (packets (list_of cs s))) n.1 ∙ i.ends;
-        none = rest_cons (write_packet c (data_of c s)) (list_of cs s) (write-of c) ∙ i.none;
+        none = rest_cons (write_packet c (data_of c s)) (list_of cs s) (write_of c) ∙ i.none;
       }
 
   -- every command in table order: the sequence is run last, when the mode is set
-  free-table : Free table s factory
+  free_table : Free table s factory
   unfolding blocked store values_after
-  free-table = (refl, (refl, (refl, (refl, (refl, (refl, (refl, (refl, (k.running, tt)))))))))
+  free_table = (refl, (refl, (refl, (refl, (refl, (refl, (refl, (refl, (k.running, tt)))))))))
 
-  all-stored : store_all table s factory ≡ s
+  all_stored : store_all table s factory ≡ s
   unfolding store_all store values_after
-  all-stored = refl
+  all_stored = refl
 
   -- Standard list: played from factory values it ends at exactly the settings it was made from, all acknowledged, nothing left.
-  pub standard-plays : play factory (standard_list s) ≡ from s
+  pub standard_plays : play factory (standard_list s) ≡ from s
   unfolding standard_list
-  standard-plays = (plays table factory free-table).ends ∙ ap from all-stored
+  standard_plays = (plays table factory free_table).ends ∙ ap from all_stored
 
-  pub standard-acknowledged : all_acknowledged (judgements_on factory (standard_list s)) ≡ true
+  pub standard_acknowledged : all_acknowledged (judgements_on factory (standard_list s)) ≡ true
   unfolding standard_list
-  standard-acknowledged = (plays table factory free-table).good
+  standard_acknowledged = (plays table factory free_table).good
 
-  pub standard-finished : half_sent (standard_list s) ≡ []
+  pub standard_finished : half_sent (standard_list s) ≡ []
   unfolding standard_list
-  standard-finished = (plays table factory free-table).none
+  standard_finished = (plays table factory free_table).none
 
 -- 111 bytes
 pub standard_size : (s : Settings) → length (standard_list s) ≡ 111

@@ -15,7 +15,7 @@ use Rattle.packet.specs.Receiver.{Receiver, Received, with, waiting as receiverW
 use Rattle.packet.specs.Stream.{size, has_packet, packets, rest}
 use Rattle.packet.specs.Writer.{written}
 use Rattle.packet.proofs.Cases.{bool_cases}
-use Rattle.packet.proofs.Calls.{same-calls}
+use Rattle.packet.proofs.Calls.{same_calls}
 use Rattle.packet.proofs.StreamLaws.{IsPacket, payload_length_lem, packets_cons, rest_cons, packets_none, rest_none, packet_induction}
 use Rattle.packet.proofs.ReceiverLaws.{Between, between_packet, one, first_of, too_few}
 use Rattle.command.specs.Table.{command_of}
@@ -37,7 +37,7 @@ use Rattle.command.specs.declared.controller.Controller.{Controller}
 use Rattle.command.proofs.transfer.Laws.{fits_hold}
 use Rattle.command.proofs.carry.Laws.{Bounded, stored_part, carried_transfer}
 use Rattle.command.proofs.controller.Laws.{rule_parts}
-use Rattle.command.proofs.endpoint.Laws.{call-is, has_room, stays_in_rule, endpoint-streams, at_once}
+use Rattle.command.proofs.endpoint.Laws.{call_is, has_room, stays_in_rule, endpoint_streams, at_once}
 
 -- a packet with another payload
 abbrev with_body : Arrived → List ℕ → Arrived
@@ -81,8 +81,8 @@ module _ (c : Controller) (k : Ready c) (p : List ℕ) (i : IsPacket p) where
   abbrev body : List ℕ
   body = take (payload_length p) (sets c.hold 0 (payload p))
 
-  whole-body : payload_length p ≤ 1024 → body ≡ payload p
-  whole-body l = rw (zero-add (payload_length p)) at (stored_part c.hold (payload p) 0 (payload_length p) (payload_length_lem p i.exact) (omega (arith, k.hold)))
+  whole_body : payload_length p ≤ 1024 → body ≡ payload p
+  whole_body l = rw (zero-add (payload_length p)) at (stored_part c.hold (payload p) 0 (payload_length p) (payload_length_lem p i.exact) (omega (arith, k.hold)))
 
   -- it is judged as document 01 judges its bytes
   seen : arrived_in complete ≡ with_body (arrived p) body
@@ -97,28 +97,28 @@ module _ (c : Controller) (k : Ready c) (p : List ℕ) (i : IsPacket p) where
         get_or-take 6 p 5 0 (omega arith),
       )
 
-  judged-same : judged_in c complete ≡ judged (state_of c) p
+  judged_same : judged_in c complete ≡ judged (state_of c) p
   unfolding judged_in judged
-  judged-same =
+  judged_same =
       ap (judge c.settings.mode (state_of c).transfer) seen
-      ∙ judge_body c.settings.mode (state_of c).transfer (arrived p) body (λ l. whole-body (omega arith))
+      ∙ judge_body c.settings.mode (state_of c).transfer (arrived p) body (λ l. whole_body (omega arith))
 
-  response-same : response_in c complete ≡ response c.settings (arrived p) (judged (state_of c) p)
+  response_same : response_in c complete ≡ response c.settings (arrived p) (judged (state_of c) p)
   unfolding response_in response
-  response-same = ap₂ (response c.settings) seen judged-same
+  response_same = ap₂ (response c.settings) seen judged_same
 
-  state-same : state_of (carried_out c complete.receiver (arrived_in complete).body (judged_in c complete)) ≡ next (state_of c) p
-  state-same =
-      ap (λ (j : Judgement). state_of (carried_out c complete.receiver (arrived_in complete).body j)) judged-same
-      ∙ carried_state c k p i complete.receiver (arrived_in complete).body (λ l. ap (λ (q : Arrived). q.body) seen ∙ whole-body l)
+  state_same : state_of (carried_out c complete.receiver (arrived_in complete).body (judged_in c complete)) ≡ next (state_of c) p
+  state_same =
+      ap (λ (j : Judgement). state_of (carried_out c complete.receiver (arrived_in complete).body j)) judged_same
+      ∙ carried_state c k p i complete.receiver (arrived_in complete).body (λ l. ap (λ (q : Arrived). q.body) seen ∙ whole_body l)
 
   -- the controller that is left
-  left-same : carried_out c complete.receiver (arrived_in complete).body (judged_in c complete) ≡ carried_out c complete.receiver (payload p) (judged (state_of c) p)
+  left_same : carried_out c complete.receiver (arrived_in complete).body (judged_in c complete) ≡ carried_out c complete.receiver (payload p) (judged (state_of c) p)
   unfolding judged
-  left-same =
-      ap (carried_out c complete.receiver (arrived_in complete).body) judged-same
+  left_same =
+      ap (carried_out c complete.receiver (arrived_in complete).body) judged_same
       ∙ body_alike c complete.receiver (arrived_in complete).body (payload p) (payload_length p) (judged (state_of c) p)
-      (λ l. ap (λ (q : Arrived). q.body) seen ∙ whole-body l) (has_room c (arrived p) k)
+      (λ l. ap (λ (q : Arrived). q.body) seen ∙ whole_body l) (has_room c (arrived p) k)
 
 -- what a packet draws
 abbrev pub drawn : Controller → List ℕ → List ℕ
@@ -135,15 +135,15 @@ pub record Takes (out : List ℕ) (c : Controller) (p : List ℕ) (r : After) : 
   pub boundary : Between (receiver_in r.controller)
 
 module _ (out : List ℕ) (l : 64 ≤ length out) (c : Controller) (k : Ready c) (q : Between (receiver_in c)) where
-  pub takes-packet : (p b : List ℕ) → IsPacket p → Takes out c p (receive_call c (p ++ b) out)
-  takes-packet p b i =
-      let e = call-is c (p ++ b) out k l (first_of 0 (receiver_in c) q p b (omega arith) i) in
+  pub takes_packet : (p b : List ℕ) → IsPacket p → Takes out c p (receive_call c (p ++ b) out)
+  takes_packet p b i =
+      let e = call_is c (p ++ b) out k l (first_of 0 (receiver_in c) q p b (omega arith) i) in
       record {
-        answer = ap (λ (r : After). r.answer) e ∙ ap (λ (m : List ℕ). Answers (length p) (length m)) (response-same c k p i);
-        output = ap (λ (r : After). r.output) e ∙ ap (λ (m : List ℕ). written m out) (response-same c k p i);
-        wrong = ap (λ (r : After). r.wrong) e ∙ ap wrong_in (judged-same c k p i);
-        controller = ap (λ (r : After). r.controller) e ∙ left-same c k p i;
-        state = ap (λ (r : After). state_of r.controller) e ∙ state-same c k p i;
+        answer = ap (λ (r : After). r.answer) e ∙ ap (λ (m : List ℕ). Answers (length p) (length m)) (response_same c k p i);
+        output = ap (λ (r : After). r.output) e ∙ ap (λ (m : List ℕ). written m out) (response_same c k p i);
+        wrong = ap (λ (r : After). r.wrong) e ∙ ap wrong_in (judged_same c k p i);
+        controller = ap (λ (r : After). r.controller) e ∙ left_same c k p i;
+        state = ap (λ (r : After). state_of r.controller) e ∙ state_same c k p i;
         ready = stays_in_rule c (p ++ b) out k l;
         boundary = subst (λ (r : After). Between (receiver_in r.controller)) (sym e) (between_packet (receiver_in c) p i);
       }
@@ -151,7 +151,7 @@ module _ (out : List ℕ) (l : 64 ≤ length out) (c : Controller) (k : Ready c)
   -- too few bytes for a packet are all taken
   pub takes_part : (b : List ℕ) → has_packet b ≡ false → receive_call c b out ≡ waiting c (receiverWaiting 0 (receiver_in c) b) out
   unfolding receiverWaiting
-  takes_part b h = call-is c b out k l (too_few 0 (receiver_in c) q b h)
+  takes_part b h = call_is c b out k l (too_few 0 (receiver_in c) q b h)
 
 pub between_of : {c : Controller} → Boundary c → Between (receiver_in c)
 between_of q = record { header = q.ready.header; received = q.received }
@@ -190,9 +190,9 @@ module _ (out : List ℕ) (l : 64 ≤ length out) where
   abbrev Claim : List ℕ → Type 0
   Claim b = (c : Controller) → Boundary c → Replies c b (served_one (serves out) c b)
 
-  follows-none : (b : List ℕ) → has_packet b ≡ false → Claim b
+  follows_none : (b : List ℕ) → has_packet b ≡ false → Claim b
   unfolding served_one calls_on replies after receiverWaiting
-  follows-none b h c q =
+  follows_none b h c q =
       let e = takes_part out l c q.ready (between_of q) b h in
       rw e
       (record {
@@ -205,10 +205,10 @@ module _ (out : List ℕ) (l : 64 ≤ length out) where
       })
 
   -- one packet more
-  follows-more : (p b : List ℕ) → IsPacket p → Claim b → Claim (p ++ b)
+  follows_more : (p b : List ℕ) → IsPacket p → Claim b → Claim (p ++ b)
   unfolding served_one calls_on replies after written
-  follows-more p b i ih c q =
-      let t = takes-packet out l c q.ready (between_of q) p b i in
+  follows_more p b i ih c q =
+      let t = takes_packet out l c q.ready (between_of q) p b i in
       let d : Controller = (receive_call c (p ++ b) out).controller in
       let m : Reply = reply_to (state_of c) p in
       let n : length (p ++ b) ≡ length p + length b = length-append p b in
@@ -216,7 +216,7 @@ module _ (out : List ℕ) (l : 64 ≤ length out) where
       rw (t.answer, t.output, t.wrong, take_at (drawn c p) (drop (length (drawn c p)) out) (length (drawn c p)) refl) in
       let more : calls_on (serves out) (length (p ++ b)) d (drop (length p) (p ++ b)) ≡ served_one (serves out) d b =
       ap (calls_on (serves out) (length (p ++ b)) d) (drop_at p b (length p) refl)
-      ∙ same-calls (serves out) Ready (endpoint-streams out l) (length (p ++ b)) (suc (length b)) d b t.ready (omega (arith, i.least)) (omega arith) in
+      ∙ same_calls (serves out) Ready (endpoint_streams out l) (length (p ++ b)) (suc (length b)) d b t.ready (omega (arith, i.least)) (omega arith) in
       let f : served_one (serves out) c (p ++ b) ≡ record { given = m ∷ (served_one (serves out) d b).given; state = (served_one (serves out) d b).state } =
       ap (λ (x : Call Controller Reply). and_then x.gives x.state (calls_on (serves out) (length (p ++ b)) x.state (drop x.taken (p ++ b)))) e
       ∙ ap (λ (x : Served Controller Reply). and_then (some m) d x) more in
@@ -231,13 +231,13 @@ module _ (out : List ℕ) (l : 64 ≤ length out) where
         ready = g.ready;
       })
 
-  follows-once : (b : List ℕ) → Claim b
-  follows-once = packet_induction Claim follows-none follows-more
+  follows_once : (b : List ℕ) → Claim b
+  follows_once = packet_induction Claim follows_none follows_more
 
 -- All of a stream, however it was cut.
 all_played : (c : Controller) (b : List ℕ) (s : Sending b) → Boundary c → Replies c b (replies_to c s)
 all_played c b s q =
-    subst (Replies c b) (sym (at_once (s.outs 0) (s.room 0) c b s q.ready)) (follows-once (s.outs 0) (s.room 0) b c q)
+    subst (Replies c b) (sym (at_once (s.outs 0) (s.room 0) c b s q.ready)) (follows_once (s.outs 0) (s.room 0) b c q)
 
 -- Responses and settings follow document 01.
 pub follows_played : (c : Controller) (b : List ℕ) (s : Sending b) → Boundary c → Follows c b (sent_to c s)

@@ -14,7 +14,7 @@ use Rattle.packet.specs.Packet.{payload_length}
 use Rattle.packet.specs.Receiver.{Receiver, Received, with, missing, waiting as receiverWaiting, completed, packet_in_rule}
 use Rattle.packet.specs.Writer.{written}
 use Rattle.packet.proofs.Cases.{lt_cases, cond_cases}
-use Rattle.packet.proofs.Calls.{Streaming, shifted, keeps-calls, AnyOutput, at_once as sent-at-once}
+use Rattle.packet.proofs.Calls.{Streaming, shifted, keeps_calls, AnyOutput, at_once as sent-at-once}
 use Rattle.packet.proofs.ReceiverLaws.{with_nil, hold_length, missing_least, after, cut, behind, waits, completes}
 use Rattle.command.specs.Transfer.{held}
 use Rattle.command.specs.Faults.{Arrived}
@@ -27,7 +27,7 @@ use Rattle.command.specs.Sending.{Reply, shown, serves, Sending, replies_to, sen
 use Rattle.command.specs.declared.judgement.Judgement.{Judgement}
 use Rattle.command.specs.declared.controller.Controller.{Controller}
 use Rattle.command.proofs.rules.Laws.{kept_by, in_rule_of}
-use Rattle.command.proofs.transfer.Laws.{held-length}
+use Rattle.command.proofs.transfer.Laws.{held_length}
 use Rattle.command.proofs.judgement.Laws.{Sound, sound}
 use Rattle.command.proofs.carry.Laws.{Bounded, bounded, transfer_kept_lem, buffer_kept}
 use Rattle.command.proofs.controller.Laws.{rule_parts, rule_whole}
@@ -54,21 +54,21 @@ received_by c r =
     record { settings = c.settings; registers = registers_of (transfer_of c.registers) r; buffer = c.buffer; hold = r.hold }
 
 module _ (c : Controller) (b out : List ℕ) (k : Ready c) (l : 64 ≤ length out) where
-  pub call-is : {t : Received} → taken_by c b ≡ t → receive_call c b out ≡ ends c out t
+  pub call_is : {t : Received} → taken_by c b ≡ t → receive_call c b out ≡ ends c out t
   unfolding receive_call
-  call-is e = rw (le-ltb (length out) 64 l, k.rule, e)
+  call_is e = rw (le-ltb (length out) 64 l, k.rule, e)
 
-  call-waits : length b < missing (receiver_in c) b → receive_call c b out ≡ waiting c (receiverWaiting 0 (receiver_in c) b) out
+  call_waits : length b < missing (receiver_in c) b → receive_call c b out ≡ waiting c (receiverWaiting 0 (receiver_in c) b) out
   unfolding receiverWaiting
-  call-waits h = call-is (waits 0 (receiver_in c) b h)
+  call_waits h = call_is (waits 0 (receiver_in c) b h)
 
-  call-answers : missing (receiver_in c) b ≤ length b → receive_call c b out ≡ answered c (completed 0 (receiver_in c) b (missing (receiver_in c) b)) out
+  call_answers : missing (receiver_in c) b ≤ length b → receive_call c b out ≡ answered c (completed 0 (receiver_in c) b (missing (receiver_in c) b)) out
   unfolding completed
-  call-answers h = call-is (completes 0 (receiver_in c) b h)
+  call_answers h = call_is (completes 0 (receiver_in c) b h)
 
 -- the data that a head holds are as many as its number says
 pub held_same : (c : Controller) → Ready c → length (held (state_of c).transfer) ≡ held_in (transfer_of c.registers)
-held_same c k = held-length (transfer_of c.registers) (rule_parts c.settings c.registers k.rule).transfer c.buffer k.buffer
+held_same c k = held_length (transfer_of c.registers) (rule_parts c.settings c.registers k.rule).transfer c.buffer k.buffer
 
 -- there is room for what a packet adds to them
 pub has_room : (c : Controller) (p : Arrived) → Ready c
@@ -148,66 +148,66 @@ pub stays_in_rule : (c : Controller) (b out : List ℕ) → Ready c → 64 ≤ l
 unfolding receiverWaiting completed with
 stays_in_rule c b out k l =
     lt_cases (length b) (missing (receiver_in c) b)
-    (λ h. rw (call-waits c b out k l h) (ready_waiting c b k h))
+    (λ h. rw (call_waits c b out k l h) (ready_waiting c b k h))
     (λ h.
     let a = take (missing (receiver_in c) b - 1) b in
-    rw (call-answers c b out k l h)
+    rw (call_answers c b out k l h)
     (ready_answered c (completed 0 (receiver_in c) b (missing (receiver_in c) b)) k
     (length-sets c.registers.header c.registers.received a ∙ k.header) (hold_length 0 (receiver_in c) a ∙ k.hold) refl))
 
 -- The receive call over a stream.
 module _ (out : List ℕ) (l : 64 ≤ length out) where
-  none-waits : (c : Controller) (a : List ℕ) → Ready c → (serves out c a).gives ≡ none → length a < missing (receiver_in c) a
-  none-waits c a k g =
+  none_waits : (c : Controller) (a : List ℕ) → Ready c → (serves out c a).gives ≡ none → length a < missing (receiver_in c) a
+  none_waits c a k g =
       lt_cases (length a) (missing (receiver_in c) a) (λ h. h)
       (λ h.
-      let e = sym (ap (λ (r : After). (shown r).gives) (call-answers c a out k l h)) ∙ g in
+      let e = sym (ap (λ (r : After). (shown r).gives) (call_answers c a out k l h)) ∙ g in
       let z : ◌≡◌ {A = ℕ} 0 1 = cc in absurd (omega arith))
 
-  some-answers : (c : Controller) (a : List ℕ) (e : Reply) → Ready c → (serves out c a).gives ≡ some e → missing (receiver_in c) a ≤ length a
-  some-answers c a e k g =
+  some_answers : (c : Controller) (a : List ℕ) (e : Reply) → Ready c → (serves out c a).gives ≡ some e → missing (receiver_in c) a ≤ length a
+  some_answers c a e k g =
       lt_cases (length a) (missing (receiver_in c) a)
       (λ h.
-      let e = sym (ap (λ (r : After). (shown r).gives) (call-waits c a out k l h)) ∙ g in
+      let e = sym (ap (λ (r : After). (shown r).gives) (call_waits c a out k l h)) ∙ g in
       let z : ◌≡◌ {A = ℕ} 0 1 = cc in absurd (omega arith))
       (λ h. h)
 
-  shown-after : (c : Controller) (a : List ℕ) (n : ℕ) (t : Received) (b : Bool)
+  shown_after : (c : Controller) (a : List ℕ) (n : ℕ) (t : Received) (b : Bool)
       → shown (cond b (answered c (after n t) out) (waiting c (after n t) out))
       ≡ shifted n (shown (cond b (answered (received_by c (with 0 (receiver_in c) a)) t out) (waiting (received_by c (with 0 (receiver_in c) a)) t out)))
   unfolding response_in judged_in
-  shown-after c a n t true = refl
-  shown-after c a n t false = refl
+  shown_after c a n t true = refl
+  shown_after c a n t false = refl
 
-  cut-call : (c : Controller) (a b : List ℕ) → Ready c → length a < missing (receiver_in c) a
+  cut_call : (c : Controller) (a b : List ℕ) → Ready c → length a < missing (receiver_in c) a
       → serves out c (a ++ b) ≡ shifted (length a) (serves out (received_by c (with 0 (receiver_in c) a)) b)
-  cut-call c a b k h =
+  cut_call c a b k h =
       let d = received_by c (with 0 (receiver_in c) a) in
-      ap shown (call-is c (a ++ b) out k l (cut 0 (receiver_in c) a b k.header h))
-      ∙ shown-after c a (length a) (taken_by d b) (taken_by d b).complete
-      ∙ ap (λ (r : After). shifted (length a) (shown r)) (sym (call-is d b out (ready_waiting c a k h) l refl))
+      ap shown (call_is c (a ++ b) out k l (cut 0 (receiver_in c) a b k.header h))
+      ∙ shown_after c a (length a) (taken_by d b) (taken_by d b).complete
+      ∙ ap (λ (r : After). shifted (length a) (shown r)) (sym (call_is d b out (ready_waiting c a k h) l refl))
 
-  behind-call : (c : Controller) (a b : List ℕ) → Ready c → missing (receiver_in c) a ≤ length a → serves out c (a ++ b) ≡ serves out c a
-  behind-call c a b k h = ap shown (call-is c (a ++ b) out k l (behind 0 (receiver_in c) a b k.header h) ∙ sym (call-is c a out k l refl))
+  behind_call : (c : Controller) (a b : List ℕ) → Ready c → missing (receiver_in c) a ≤ length a → serves out c (a ++ b) ≡ serves out c a
+  behind_call c a b k h = ap shown (call_is c (a ++ b) out k l (behind 0 (receiver_in c) a b k.header h) ∙ sym (call_is c a out k l refl))
 
-  count-answers : (c : Controller) (a : List ℕ) → Ready c → missing (receiver_in c) a ≤ length a → (serves out c a).taken ≡ missing (receiver_in c) a
+  count_answers : (c : Controller) (a : List ℕ) → Ready c → missing (receiver_in c) a ≤ length a → (serves out c a).taken ≡ missing (receiver_in c) a
   unfolding completed
-  count-answers c a k h = ap (λ (r : After). (shown r).taken) (call-answers c a out k l h)
+  count_answers c a k h = ap (λ (r : After). (shown r).taken) (call_answers c a out k l h)
 
-  pub endpoint-streams : Streaming (serves out) Ready
+  pub endpoint_streams : Streaming (serves out) Ready
   unfolding receiverWaiting
-  endpoint-streams =
+  endpoint_streams =
       record {
         keeps = λ c b k. stays_in_rule c b out k l;
         empty = λ c k.
-            ap shown (call-waits c [] out k l (omega (arith, missing_least (receiver_in c) [])))
+            ap shown (call_waits c [] out k l (omega (arith, missing_least (receiver_in c) [])))
             ∙ ap (λ (r : Receiver). record { taken = 0; gives = none; state = received_by c r }) (with_nil 0 (receiver_in c));
         cut = λ c a b k g.
-            let h = none-waits c a k g in
-            cut-call c a b k h ∙ ap (λ (d : Controller). shifted (length a) (serves out d b)) (sym (ap (λ (r : After). r.controller) (call-waits c a out k l h)));
-        behind = λ c a b e k g. behind-call c a b k (some-answers c a e k g);
-        least = λ c a e k g. omega (arith, missing_least (receiver_in c) a, count-answers c a k (some-answers c a e k g));
-        most = λ c a e k g. omega (arith, some-answers c a e k g, count-answers c a k (some-answers c a e k g));
+            let h = none_waits c a k g in
+            cut_call c a b k h ∙ ap (λ (d : Controller). shifted (length a) (serves out d b)) (sym (ap (λ (r : After). r.controller) (call_waits c a out k l h)));
+        behind = λ c a b e k g. behind_call c a b k (some_answers c a e k g);
+        least = λ c a e k g. omega (arith, missing_least (receiver_in c) a, count_answers c a k (some_answers c a e k g));
+        most = λ c a e k g. omega (arith, some_answers c a e k g, count_answers c a k (some_answers c a e k g));
       }
 
 -- A call's answer and controller do not depend on what its output holds, so that calls with an output each are as good as calls with one.
@@ -225,8 +225,8 @@ same_ends c t out other = go t.complete
 any_output : AnyOutput serves Ready 64
 any_output =
     record {
-      streams = endpoint-streams;
-      same = λ out other c b l m k. ap shown (call-is c b out k l refl) ∙ same_ends c (taken_by c b) out other ∙ sym (ap shown (call-is c b other k m refl));
+      streams = endpoint_streams;
+      same = λ out other c b l m k. ap shown (call_is c b out k l refl) ∙ same_ends c (taken_by c b) out other ∙ sym (ap shown (call_is c b other k m refl));
     }
 
 -- However the byte stream was cut, it is as if it came at once.
@@ -244,4 +244,4 @@ sent_in_rule c b s k =
     let out = s.outs 0 in
     let l = s.room 0 in
     subst (λ (r : Served Controller Reply). Ready r.state) (sym (at_once out l c b s k))
-    (keeps-calls (serves out) Ready (endpoint-streams out l) (suc (length b)) c b k)
+    (keeps_calls (serves out) Ready (endpoint_streams out l) (suc (length b)) c b k)

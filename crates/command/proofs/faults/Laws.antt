@@ -186,10 +186,10 @@ open_for_another cmd1 cmd2 c d h = go (command_of cmd1 cmd2) refl
 
 module _ (t : Transfer) (p : Arrived) where
   -- 02
-  command-fault : (f : Found) → command_of p.cmd1 p.cmd2 ≡ f → wrong_command f p.type ≡ true → FirstFault t p 0x02
+  command_fault : (f : Found) → command_of p.cmd1 p.cmd2 ≡ f → wrong_command f p.type ≡ true → FirstFault t p 0x02
   unfolding wrong_command
-  command-fault Unknown e h = UnknownCommand (λ c n. let z : ◌≡◌ {A = ℕ} 0 1 = cc (named p.cmd1 p.cmd2 c n) in omega arith)
-  command-fault (Known c) e h =
+  command_fault Unknown e h = UnknownCommand (λ c n. let z : ◌≡◌ {A = ℕ} 0 1 = cc (named p.cmd1 p.cmd2 c n) in omega arith)
+  command_fault (Known c) e h =
       or_cases (not (eqb p.type host_write || eqb p.type host_read) || false) (eqb p.type host_read && not (readable c))
       (or_cases (not (eqb p.type host_write || eqb p.type host_read)) false
       (λ h.
@@ -203,9 +203,9 @@ module _ (t : Transfer) (p : Arrived) where
       h
 
   -- 04
-  memory-fault : too_long (is_open t) (length (held t)) p.flags p.size ≡ true → FirstFault t p 0x04
+  memory_fault : too_long (is_open t) (length (held t)) p.flags p.size ≡ true → FirstFault t p 0x04
   unfolding too_long
-  memory-fault =
+  memory_fault =
       or_cases (ltb 1024 p.size) (continues p.flags && is_open t && ltb 1024 (length (held t) + p.size))
       (λ h. LongPayload (ltb-true 1024 p.size h)) (longer t refl)
     where
@@ -216,9 +216,9 @@ module _ (t : Transfer) (p : Arrived) where
           (ltb-true 1024 (length d + p.size) (and_right (continues p.flags && true) _ h))
 
   -- 0B
-  order-fault : wrong_order (is_open t) (open_for (command_of p.cmd1 p.cmd2) t) p.type p.flags ≡ true → FirstFault t p 0x0B
+  order_fault : wrong_order (is_open t) (open_for (command_of p.cmd1 p.cmd2) t) p.type p.flags ≡ true → FirstFault t p 0x0B
   unfolding wrong_order
-  order-fault =
+  order_fault =
       let parts = not (eqb p.type host_write) && not (eqb p.flags whole) in
       let stray = continues p.flags && not (open_for (command_of p.cmd1 p.cmd2) t) in
       let still = (eqb p.flags whole || eqb p.flags beginning) && is_open t in
@@ -227,27 +227,27 @@ module _ (t : Transfer) (p : Arrived) where
       (or_cases (ltb last p.flags) parts
       (λ h. UnknownFlags (ltb-true last p.flags h))
       (λ h. NoWriteInParts (eqb-false p.type host_write (not-true _ (and_left _ _ h))) (eqb-false p.flags whole (not-true _ (and_right (not (eqb p.type host_write)) _ h)))))
-      (λ h. no-transfer t refl (two_true p.flags intermediate last (and_left _ _ h)) (not-true _ (and_right (continues p.flags) _ h))))
-      (λ h. open-still t refl (two_true p.flags whole beginning (and_left _ _ h)) (and_right (eqb p.flags whole || eqb p.flags beginning) (is_open t) h))
+      (λ h. no_transfer_lem t refl (two_true p.flags intermediate last (and_left _ _ h)) (not-true _ (and_right (continues p.flags) _ h))))
+      (λ h. open_still t refl (two_true p.flags whole beginning (and_left _ _ h)) (and_right (eqb p.flags whole || eqb p.flags beginning) (is_open t) h))
     where
-      no-transfer : (u : Transfer) → t ≡ u → Continues p.flags → open_for (command_of p.cmd1 p.cmd2) u ≡ false → FirstFault t p 0x0B
-      no-transfer Closed e f h = NoneOpen f e
-      no-transfer (Opened c d) e f h =
+      no_transfer_lem : (u : Transfer) → t ≡ u → Continues p.flags → open_for (command_of p.cmd1 p.cmd2) u ≡ false → FirstFault t p 0x0B
+      no_transfer_lem Closed e f h = NoneOpen f e
+      no_transfer_lem (Opened c d) e f h =
           OpenForAnother c d f e
           (λ n. never (sym h ∙ ap (λ (g : Found). open_for g (Opened c d)) (named p.cmd1 p.cmd2 c n)
           ∙ and_both _ _ (eq-eqb (cmd1_for c) (cmd1_for c) refl) (eq-eqb (cmd2_for c) (cmd2_for c) refl)))
 
-      open-still : (u : Transfer) → t ≡ u → Starts p.flags → is_open u ≡ true → FirstFault t p 0x0B
-      open-still Closed e f h = never h
-      open-still (Opened c d) e f h = StillOpen c d f e
+      open_still : (u : Transfer) → t ≡ u → Starts p.flags → is_open u ≡ true → FirstFault t p 0x0B
+      open_still Closed e f h = never h
+      open_still (Opened c d) e f h = StillOpen c d f e
 
   -- Together: every fault is one whose test holds, and every test that holds is a fault.
   abbrev pub firstGroup : Codes
   firstGroup = faults (command_of p.cmd1 p.cmd2) t p
 
-  listed-held : (n : ℕ) → Memᴰ n (codes_of firstGroup) → Held firstGroup n
+  listed_held : (n : ℕ) → Memᴰ n (codes_of firstGroup) → Held firstGroup n
   unfolding codes_of faults faults_of
-  listed-held n =
+  listed_held n =
       listed_cases false 1 n _ (λ t e. never t)
       (listed_cases firstGroup.command 2 n _ (λ t e. rw e (Code02 t))
       (listed_cases false 3 n _ (λ t e. never t)
@@ -260,30 +260,30 @@ module _ (t : Transfer) (p : Arrived) where
       (listed_cases false 10 n _ (λ t e. never t)
       (listed_cases firstGroup.continuation 11 n [] (λ t e. rw e (Code0B t)) (λ h. absurd (Memᴰ.not-nil h))))))))))))
 
-  held-fault : (n : ℕ) → Held firstGroup n → FirstFault t p n
+  held_fault : (n : ℕ) → Held firstGroup n → FirstFault t p n
   unfolding faults faults_of
-  held-fault n (Code02 h) = command-fault (command_of p.cmd1 p.cmd2) refl h
-  held-fault n (Code04 h) = memory-fault h
-  held-fault n (Code09 h) = WrongChecksum (not-true p.right h)
-  held-fault n (Code0B h) = order-fault h
+  held_fault n (Code02 h) = command_fault (command_of p.cmd1 p.cmd2) refl h
+  held_fault n (Code04 h) = memory_fault h
+  held_fault n (Code09 h) = WrongChecksum (not-true p.right h)
+  held_fault n (Code0B h) = order_fault h
 
-  fault-held : (n : ℕ) → FirstFault t p n → Held firstGroup n
+  fault_held : (n : ℕ) → FirstFault t p n → Held firstGroup n
   unfolding faults faults_of wrong_command too_long wrong_order
-  fault-held n (WrongChecksum h) = Code09 (rw h)
-  fault-held n (UnknownType h g) = Code02 (rw (ne_eqb p.type host_write h, ne_eqb p.type host_read g))
-  fault-held n (UnknownCommand h) =
+  fault_held n (WrongChecksum h) = Code09 (rw h)
+  fault_held n (UnknownType h g) = Code02 (rw (ne_eqb p.type host_write h, ne_eqb p.type host_read g))
+  fault_held n (UnknownCommand h) =
       Code02 (rw (unnamed p.cmd1 p.cmd2 h, or-true (not (eqb p.type host_write || eqb p.type host_read))))
-  fault-held n (ColourRead h g k) = Code02 (rw (named p.cmd1 p.cmd2 StaticColour (g, k), h))
-  fault-held n (LongPayload h) = Code04 (rw (lt-ltb 1024 p.size h))
-  fault-held n (LongTransfer c d f e h) =
+  fault_held n (ColourRead h g k) = Code02 (rw (named p.cmd1 p.cmd2 StaticColour (g, k), h))
+  fault_held n (LongPayload h) = Code04 (rw (lt-ltb 1024 p.size h))
+  fault_held n (LongTransfer c d f e h) =
       Code04 (rw (e, true_two p.flags intermediate last f, lt-ltb 1024 (length d + p.size) h) (or-true (ltb 1024 p.size)))
-  fault-held n (UnknownFlags h) = Code0B (rw (lt-ltb 3 p.flags h))
-  fault-held n (NoWriteInParts h g) = Code0B (rw (ne_eqb p.type host_write h, ne_eqb p.flags whole g, or-true (ltb last p.flags)))
-  fault-held n (NoneOpen f e) =
+  fault_held n (UnknownFlags h) = Code0B (rw (lt-ltb 3 p.flags h))
+  fault_held n (NoWriteInParts h g) = Code0B (rw (ne_eqb p.type host_write h, ne_eqb p.flags whole g, or-true (ltb last p.flags)))
+  fault_held n (NoneOpen f e) =
       Code0B (rw (e, closed_for (command_of p.cmd1 p.cmd2), true_two p.flags intermediate last f, or-true))
-  fault-held n (OpenForAnother c d f e h) =
+  fault_held n (OpenForAnother c d f e h) =
       Code0B (rw (e, open_for_another p.cmd1 p.cmd2 c d h, true_two p.flags intermediate last f, or-true))
-  fault-held n (StillOpen c d f e) = Code0B (rw (e, true_two p.flags whole beginning f, or-true))
+  fault_held n (StillOpen c d f e) = Code0B (rw (e, true_two p.flags whole beginning f, or-true))
 
   -- one of them holds exactly when the first group has one
   held_any : (n : ℕ) → Held firstGroup n → any_fault firstGroup ≡ true
@@ -302,18 +302,18 @@ module _ (t : Transfer) (p : Arrived) where
       (λ h. f 0x09 (Code09 h)))
       (λ h. f 0x0B (Code0B h))
 
-  pub fault-any : (n : ℕ) → FirstFault t p n → any_fault firstGroup ≡ true
-  fault-any n f = held_any n (fault-held n f)
+  pub fault_any : (n : ℕ) → FirstFault t p n → any_fault firstGroup ≡ true
+  fault_any n f = held_any n (fault_held n f)
 
-  pub no-fault : any_fault firstGroup ≡ false → (n : ℕ) → FirstFault t p n → ⊥
-  no-fault h n f = never (sym h ∙ fault-any n f)
+  pub no_fault : any_fault firstGroup ≡ false → (n : ℕ) → FirstFault t p n → ⊥
+  no_fault h n f = never (sym h ∙ fault_any n f)
 
-  pub faultless-test : ((n : ℕ) → FirstFault t p n → ⊥) → any_fault firstGroup ≡ false
-  faultless-test h = bool_cases (any_fault firstGroup) (any_held (λ n k. absurd (h n (held-fault n k)))) (λ e. e)
+  pub faultless_test : ((n : ℕ) → FirstFault t p n → ⊥) → any_fault firstGroup ≡ false
+  faultless_test h = bool_cases (any_fault firstGroup) (any_held (λ n k. absurd (h n (held_fault n k)))) (λ e. e)
 
   -- the codes listed are those of the first group's faults
-  pub codes-exactly : (n : ℕ) → Memᴰ n (codes_of firstGroup) ↔ FirstFault t p n
-  codes-exactly n = (λ m. held-fault n (listed-held n m), λ f. held_listed firstGroup n (fault-held n f))
+  pub codes_exactly : (n : ℕ) → Memᴰ n (codes_of firstGroup) ↔ FirstFault t p n
+  codes_exactly n = (λ m. held_fault n (listed_held n m), λ f. held_listed firstGroup n (fault_held n f))
 
-  pub codes-some : any_fault firstGroup ≡ true → codes_of firstGroup ≡ [] → ⊥
-  codes-some h e = any_held (λ n k. Memᴰ.not-nil (subst (Memᴰ n) e (held_listed firstGroup n k))) h
+  pub codes_some : any_fault firstGroup ≡ true → codes_of firstGroup ≡ [] → ⊥
+  codes_some h e = any_held (λ n k. Memᴰ.not-nil (subst (Memᴰ n) e (held_listed firstGroup n k))) h

@@ -28,7 +28,7 @@ use Rattle.command.specs.declared.judgement.Judgement.{Judgement}
 use Rattle.command.specs.declared.judgement.Judgement.TheVariants.{Error, Hold, Write, Read}
 use Rattle.command.proofs.table.Laws.{known_code, same_eq}
 use Rattle.command.proofs.judgement.Laws.{judge_cases, unknown_fault}
-use Rattle.command.proofs.faults.Laws.{two_true, true_two, named, codes_ascending, same_ascending, firstGroup, codes-some, codes-exactly, no-fault, fault-any, faultless-test}
+use Rattle.command.proofs.faults.Laws.{two_true, true_two, named, codes_ascending, same_ascending, firstGroup, codes_some, codes_exactly, no_fault, fault_any, faultless_test}
 
 -- From a judgement to the faults: an error has the codes that the packet's faults call for.
 
@@ -65,9 +65,9 @@ module _ (mode : ℕ) (t : Transfer) (p : Arrived) where
   unfolding codes_of list_if size_of sum blocked
   calls =
       judge_cases (IfError (Draws mode t p)) mode t p
-      (λ h. FirstGroup (codes_of (firstGroup t p)) (codes-some t p h) (codes_ascending (firstGroup t p)) (codes-exactly t p))
+      (λ h. FirstGroup (codes_of (firstGroup t p)) (codes_some t p h) (codes_ascending (firstGroup t p)) (codes_exactly t p))
       (λ c e h.
-      let none : (n : ℕ) → FirstFault t p n → ⊥ = no-fault t p (ap (λ (f : Found). any_fault (faults f t p)) e ∙ h) in
+      let none : (n : ℕ) → FirstFault t p n → ⊥ = no_fault t p (ap (λ (f : Found). any_fault (faults f t p)) e ∙ h) in
       let names : Names p.cmd1 p.cmd2 c = known_code p.cmd1 p.cmd2 c e in
       let write : eqb p.type host_read ≡ false → p.type ≡ host_write = λ r.
       bool_cases (eqb p.type host_write) (λ w. eqb-true p.type host_write w)
@@ -93,9 +93,9 @@ module _ (mode : ℕ) (t : Transfer) (p : Arrived) where
   -- From the faults to the judgement.
 
   -- one of the first group holds
-  judged-first : any_fault (firstGroup t p) ≡ true → judge mode t p ≡ Error (firstGroup t p)
+  judged_first : any_fault (firstGroup t p) ≡ true → judge mode t p ≡ Error (firstGroup t p)
   unfolding judge
-  judged-first h = go (command_of p.cmd1 p.cmd2) refl h
+  judged_first h = go (command_of p.cmd1 p.cmd2) refl h
     where
       go : (f : Found) → command_of p.cmd1 p.cmd2 ≡ f → any_fault (faults f t p) ≡ true → judge_as f mode t p ≡ Error (faults f t p)
       go Unknown e k = unfold judge_as in refl
@@ -103,11 +103,11 @@ module _ (mode : ℕ) (t : Transfer) (p : Arrived) where
 
   -- none does
   module _ (none : (n : ℕ) → FirstFault t p n → ⊥) where
-    judged-later : (c : Command) → Names p.cmd1 p.cmd2 c → judge mode t p ≡ judge_data c mode p.type p.flags (joined_data t p)
+    judged_later : (c : Command) → Names p.cmd1 p.cmd2 c → judge mode t p ≡ judge_data c mode p.type p.flags (joined_data t p)
     unfolding judge judge_as
-    judged-later c n =
+    judged_later c n =
         let e : command_of p.cmd1 p.cmd2 ≡ Known c = named p.cmd1 p.cmd2 c n in
-        let h : any_fault (faults (Known c) t p) ≡ false = rw e at (faultless-test t p none) in
+        let h : any_fault (faults (Known c) t p) ≡ false = rw e at (faultless_test t p none) in
         rw e (rw h)
 
     -- the command is in the table
@@ -115,33 +115,33 @@ module _ (mode : ℕ) (t : Transfer) (p : Arrived) where
     known {P} g = go (command_of p.cmd1 p.cmd2) refl
       where
         go : (f : Found) → command_of p.cmd1 p.cmd2 ≡ f → P
-        go Unknown e = never (sym (rw e at (faultless-test t p none)) ∙ unknown_fault t p)
+        go Unknown e = never (sym (rw e at (faultless_test t p none)) ∙ unknown_fault t p)
         go (Known c) e = g c (known_code p.cmd1 p.cmd2 c e)
 
-    later-judged : Completes p.flags → (n : ℕ) → LaterFault mode t p n → IsError (judge mode t p) (n ∷ [])
+    later_judged : Completes p.flags → (n : ℕ) → LaterFault mode t p n → IsError (judge mode t p) (n ∷ [])
     unfolding codes_of list_if judge_data judge_read judge_write size_of sum split_all value_of blocked
-    later-judged f n (WrongSize c w k h) =
-        is_error size_fault (judged-later c k ∙ rw (true_two p.flags whole last f, w, ne_eqb (length (joined_data t p)) (size_of c) h))
-    later-judged f n (DataInRead r h) =
-        known (λ c k. is_error size_fault (judged-later c k ∙ rw (true_two p.flags whole last f, r, ne_eqb (length (joined_data t p)) 0 h)))
-    later-judged f n (ValueNotAllowed c w k s h) =
-        is_error (value_fault (wrong_byte c (split_all (layout c) (joined_data t p)))) (judged-later c k ∙ rw (true_two p.flags whole last f, w, eq-eqb (length (joined_data t p)) (size_of c) s, h))
-    later-judged f n (RunOutsideMode w k e h) =
-        is_error mode_fault (judged-later SequenceRun k ∙ rw (true_two p.flags whole last f, w, e, ne_eqb mode 4 h))
+    later_judged f n (WrongSize c w k h) =
+        is_error size_fault (judged_later c k ∙ rw (true_two p.flags whole last f, w, ne_eqb (length (joined_data t p)) (size_of c) h))
+    later_judged f n (DataInRead r h) =
+        known (λ c k. is_error size_fault (judged_later c k ∙ rw (true_two p.flags whole last f, r, ne_eqb (length (joined_data t p)) 0 h)))
+    later_judged f n (ValueNotAllowed c w k s h) =
+        is_error (value_fault (wrong_byte c (split_all (layout c) (joined_data t p)))) (judged_later c k ∙ rw (true_two p.flags whole last f, w, eq-eqb (length (joined_data t p)) (size_of c) s, h))
+    later_judged f n (RunOutsideMode w k e h) =
+        is_error mode_fault (judged_later SequenceRun k ∙ rw (true_two p.flags whole last f, w, e, ne_eqb mode 4 h))
 
-  judged-called : (codes : List ℕ) → Draws mode t p codes → IsError (judge mode t p) codes
-  judged-called codes (FirstGroup _ some up exactly) =
+  judged_called : (codes : List ℕ) → Draws mode t p codes → IsError (judge mode t p) codes
+  judged_called codes (FirstGroup _ some up exactly) =
       subst (IsError (judge mode t p))
       (same_ascending (codes_of (firstGroup t p)) codes 0 (codes_ascending (firstGroup t p)) up
-      (λ n m. (exactly n).1 ((codes-exactly t p n).0 m))
-      (λ n m. (codes-exactly t p n).1 ((exactly n).0 m)))
-      (is_error (firstGroup t p) (judged-first (one codes some exactly)))
+      (λ n m. (exactly n).1 ((codes_exactly t p n).0 m))
+      (λ n m. (codes_exactly t p n).1 ((exactly n).0 m)))
+      (is_error (firstGroup t p) (judged_first (one codes some exactly)))
     where
       one : (l : List ℕ) → (l ≡ [] → ⊥) → ((n : ℕ) → Memᴰ n l ↔ FirstFault t p n) → any_fault (firstGroup t p) ≡ true
       one [] s x = absurd (s refl)
-      one (n ∷ l) s x = fault-any t p n ((x n).0 (Memᴰ.head refl))
-  judged-called _ (Alone n none f l) = later-judged none f n l
+      one (n ∷ l) s x = fault_any t p n ((x n).0 (Memᴰ.head refl))
+  judged_called _ (Alone n none f l) = later_judged none f n l
 
   -- the judgement is an error with these codes exactly when the faults call for them
-  pub exactly-called : (codes : List ℕ) → IsError (judge mode t p) codes ↔ Draws mode t p codes
-  exactly-called codes = (λ h. error_called (Draws mode t p) (judge mode t p) codes h calls, judged-called codes)
+  pub exactly_called : (codes : List ℕ) → IsError (judge mode t p) codes ↔ Draws mode t p codes
+  exactly_called codes = (λ h. error_called (Draws mode t p) (judge mode t p) codes h calls, judged_called codes)

@@ -32,7 +32,7 @@ use Rattle.command.specs.declared.judgement.Judgement.TheVariants.{Error, Hold, 
 use Rattle.command.proofs.rules.Laws.{Writable}
 use Rattle.command.proofs.data.Laws.{split_length, fit_split}
 use Rattle.command.proofs.value.Laws.{command_from, values_from}
-use Rattle.command.proofs.transfer.Laws.{held_is, faults-are}
+use Rattle.command.proofs.transfer.Laws.{held_is, faults_are}
 
 -- What holds of every judgement that a packet can come to holds of its judgement. Past the first group, with c the command and d the joined data:
 pub record Later (P : Judgement → Type 0) (mode type flags : ℕ) (c : Command) (d : List ℕ) : Type 0 where
@@ -148,19 +148,19 @@ module _ (mode : ℕ) (t : TransferState) (header : List ℕ) (right : Bool) (bu
   abbrev pub codesBy : Codes
   codesBy = faults_of f (is_open_in t) (open_for_in f t) (held_in t) (type_of header) (flags_of header) (payload_length header) right
 
-  codes-are : faults f (transfer_in t buffer) (packet_in header right body) ≡ codesBy
-  codes-are = faults-are t r buffer n f (packet_in header right body)
+  codes_are : faults f (transfer_in t buffer) (packet_in header right body) ≡ codesBy
+  codes_are = faults_are t r buffer n f (packet_in header right body)
 
   module _ (e : f ≡ command_of (cmd1_of header) (cmd2_of header)) where
-    pub judge-unknown : f ≡ Unknown → Error codesBy ≡ judge mode (transfer_in t buffer) (packet_in header right body)
+    pub judge_unknown : f ≡ Unknown → Error codesBy ≡ judge mode (transfer_in t buffer) (packet_in header right body)
     unfolding judge judge_as
-    judge-unknown u = rw (← e, u) (ap Error (sym (rw u at codes-are)))
+    judge_unknown u = rw (← e, u) (ap Error (sym (rw u at codes_are)))
 
-    pub judge-known : (c : Command) → f ≡ Known c
+    pub judge_known : (c : Command) → f ≡ Known c
         → cond (any_fault codesBy) (Error codesBy) (judge_data c mode (type_of header) (flags_of header) (take (held_in t) buffer ++ body))
         ≡ judge mode (transfer_in t buffer) (packet_in header right body)
     unfolding judge judge_as
-    judge-known c k = rw (← e, k, rw k at codes-are, held_is t r buffer)
+    judge_known c k = rw (← e, k, rw k at codes_are, held_is t r buffer)
 
 -- A packet of bytes, its fields at their places, is what is judged.
 pub packet_parts : (p : List ℕ) (right : Bool) → size p ≡ length p → right ≡ right_sum p → {body : List ℕ} → body ≡ take (length p - 1 - 6) (drop 6 p)

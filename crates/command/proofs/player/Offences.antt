@@ -12,7 +12,7 @@ use lib.Seq.{take_all}
 use borrow.Author.Tests.{not-true}
 use Rattle.packet.specs.Stream.{packets, bytes_in, rest}
 use Rattle.packet.proofs.Cases.{lt_cases, and_left, and_right, never}
-use Rattle.packet.proofs.StreamLaws.{packet-there, packet-within, rest_within}
+use Rattle.packet.proofs.StreamLaws.{packet_there, packet_within, rest_within}
 use Rattle.command.specs.Response.{acknowledged}
 use Rattle.command.specs.Transfer.{Transfer, Closed, Opened, is_open}
 use Rattle.command.specs.Player.{State, from, judged, next, judgements, judgements_on, after, play, all_acknowledged, is_nil, half_sent, not_acknowledged, left_open, unfinished, earlier, offence, Offends, NotAcknowledged, Unfinished, LeftOpen, offending, Earliest}
@@ -133,8 +133,8 @@ closed_not Closed h = refl
 closed_not (Opened c d) h = never (sym h)
 
 module _ (opener at : ℕ) (a : State) (p : List ℕ) (ps : List (List ℕ)) (n : ℕ) where
-  opens-more : LeavesOpen (cond (is_open a.transfer) opener at) (at + length p) (next a p) ps n → LeavesOpen opener at a (p ∷ ps) n
-  opens-more (inl s) = go (is_open a.transfer) refl s.1
+  opens_more : LeavesOpen (cond (is_open a.transfer) opener at) (at + length p) (next a p) ps n → LeavesOpen opener at a (p ∷ ps) n
+  opens_more (inl s) = go (is_open a.transfer) refl s.1
     where
       go : (t : Bool) → is_open a.transfer ≡ t → n ≡ cond t opener at → LeavesOpen opener at a (p ∷ ps) n
       go true t e = inl (still, e)
@@ -153,7 +153,7 @@ module _ (opener at : ℕ) (a : State) (p : List ℕ) (ps : List (List ℕ)) (n 
             stays = unfold after in s.0;
             place = unfold bytes_in in e ∙ omega arith;
           })
-  opens-more (inr o) =
+  opens_more (inr o) =
       unfold after bytes_in in
       inr
       (record {
@@ -166,14 +166,14 @@ module _ (opener at : ℕ) (a : State) (p : List ℕ) (ps : List (List ℕ)) (n 
         place = o.place ∙ omega arith;
       })
 
-  opens-less : LeavesOpen opener at a (p ∷ ps) n → LeavesOpen (cond (is_open a.transfer) opener at) (at + length p) (next a p) ps n
-  opens-less (inl s) =
+  opens_less : LeavesOpen opener at a (p ∷ ps) n → LeavesOpen (cond (is_open a.transfer) opener at) (at + length p) (next a p) ps n
+  opens_less (inl s) =
       inl (λ early late c z. s.0 (p ∷ early) late (ap {B = List (List ℕ)} (λ x. p ∷ x) c) (unfold after in z), go (is_open a.transfer) refl)
     where
       go : (t : Bool) → is_open a.transfer ≡ t → n ≡ cond t opener at
       go true t = s.1
       go false t = absurd (s.0 [] (p ∷ ps) refl (unfold after in closed_not a.transfer t))
-  opens-less (inr o) = go o.before o.cut o.closed o.stays o.place
+  opens_less (inr o) = go o.before o.cut o.closed o.stays o.place
     where
       go : (before : List (List ℕ)) → p ∷ ps ≡ before ++ (o.packet ∷ o.behind) → (after a before).transfer ≡ Closed
           → ((early late : List (List ℕ)) → o.behind ≡ early ++ late → (after a (before ++ (o.packet ∷ early))).transfer ≡ Closed → ⊥)
@@ -209,7 +209,7 @@ opens_least opener at a [] = go (is_open a.transfer) refl
         still (q ∷ early) late c z = nothing_there [] q (early ++ late) c
     go false t = λ m. ⊎_elim (λ s. s.0 [] [] refl (unfold after in closed_not a.transfer t)) (λ o. nothing_there o.before o.packet o.behind o.cut)
 opens_least opener at a (p ∷ ps) =
-    least_map (opens-more opener at a p ps) (opens-less opener at a p ps)
+    least_map (opens_more opener at a p ps) (opens_less opener at a p ps)
     (left_open (cond (is_open a.transfer) opener at) (at + length p) (next a p) ps)
     (opens_least (cond (is_open a.transfer) opener at) (at + length p) (next a p) ps)
 
@@ -218,9 +218,9 @@ module _ (s : Settings) (b : List ℕ) where
   abbrev Half : ℕ → Type 0
   Half n = (half_sent b ≡ [] → ⊥) × (n ≡ bytes_in (packets b))
 
-  half-least : Least Half (unfinished b)
+  half_least : Least Half (unfinished b)
   unfolding unfinished
-  half-least = go (half_sent b) refl
+  half_least = go (half_sent b) refl
     where
       go : (r : List ℕ) → half_sent b ≡ r → Least Half (cond (is_nil r) none (some (bytes_in (packets b))))
       go [] e = λ m h. h.0 e
@@ -230,45 +230,45 @@ module _ (s : Settings) (b : List ℕ) where
   abbrev Kinds : ℕ → Type 0
   Kinds n = Refused 0 (from s) (packets b) n ⊎ (Half n ⊎ LeavesOpen 0 0 (from s) (packets b) n)
 
-  kinds-least : Least Kinds (offence s b)
+  kinds_least : Least Kinds (offence s b)
   unfolding offence
-  kinds-least =
+  kinds_least =
       least_either (Refused 0 (from s) (packets b)) (λ n. Half n ⊎ LeavesOpen 0 0 (from s) (packets b) n) (not_acknowledged 0 (from s) (packets b)) (earlier (unfinished b) (left_open 0 0 (from s) (packets b)))
       (refused_least 0 (from s) (packets b))
-      (least_either Half (LeavesOpen 0 0 (from s) (packets b)) (unfinished b) (left_open 0 0 (from s) (packets b)) half-least (opens_least 0 0 (from s) (packets b)))
+      (least_either Half (LeavesOpen 0 0 (from s) (packets b)) (unfinished b) (left_open 0 0 (from s) (packets b)) half_least (opens_least 0 0 (from s) (packets b)))
 
-  of-kind : (n : ℕ) → Kinds n → Offends s b n
-  of-kind n (inl r) = subst (Offends s b) (sym (r.place ∙ zero-add (bytes_in r.before))) (NotAcknowledged r.before r.packet r.behind r.cut r.bad)
-  of-kind n (inr (inl h)) = subst (Offends s b) (sym h.1) (Unfinished h.0)
-  of-kind n (inr (inr (inl o))) = absurd (o.0 [] (packets b) refl (unfold after in refl))
-  of-kind n (inr (inr (inr o))) =
+  of_kind : (n : ℕ) → Kinds n → Offends s b n
+  of_kind n (inl r) = subst (Offends s b) (sym (r.place ∙ zero-add (bytes_in r.before))) (NotAcknowledged r.before r.packet r.behind r.cut r.bad)
+  of_kind n (inr (inl h)) = subst (Offends s b) (sym h.1) (Unfinished h.0)
+  of_kind n (inr (inr (inl o))) = absurd (o.0 [] (packets b) refl (unfold after in refl))
+  of_kind n (inr (inr (inr o))) =
       subst (Offends s b) (sym (o.place ∙ zero-add (bytes_in o.before))) (LeftOpen o.before o.packet o.behind o.cut o.closed o.stays)
 
-  kind-of : (n : ℕ) → Offends s b n → Kinds n
-  kind-of n (NotAcknowledged before p behind c e) =
+  kind_of : (n : ℕ) → Offends s b n → Kinds n
+  kind_of n (NotAcknowledged before p behind c e) =
       inl (record { before = before; packet = p; behind = behind; cut = c; bad = e; place = sym (zero-add (bytes_in before)) })
-  kind-of n (Unfinished h) = inr (inl (h, refl))
-  kind-of n (LeftOpen before p behind c z w) =
+  kind_of n (Unfinished h) = inr (inl (h, refl))
+  kind_of n (LeftOpen before p behind c z w) =
       inr (inr (inr (record { before = before; packet = p; behind = behind; cut = c; closed = z; stays = w; place = sym (zero-add (bytes_in before)) })))
 
-  offends-least : Least (Offends s b) (offence s b)
-  offends-least = least_map of-kind kind-of (offence s b) kinds-least
+  offends_least : Least (Offends s b) (offence s b)
+  offends_least = least_map of_kind kind_of (offence s b) kinds_least
 
-  pub none-offends : offence s b ≡ none → (m : ℕ) → Offends s b m → ⊥
-  none-offends e m h = subst (Least (Offends s b)) e offends-least m h
+  pub none_offends : offence s b ≡ none → (m : ℕ) → Offends s b m → ⊥
+  none_offends e m h = subst (Least (Offends s b)) e offends_least m h
 
   -- what offends stands at its place
-  pub stands-there : (n : ℕ) (o : Offends s b n) → (take (length (offending o)) (drop n b) ≡ offending o) × (n < length b)
+  pub stands_there : (n : ℕ) (o : Offends s b n) → (take (length (offending o)) (drop n b) ≡ offending o) × (n < length b)
   unfolding rest
-  stands-there n (NotAcknowledged before p behind c e) = (packet-there b before p behind c, packet-within b before p behind c)
-  stands-there n (Unfinished h) = (take_all (length (half_sent b)) (half_sent b) (omega arith), rest_within b h)
-  stands-there n (LeftOpen before p behind c z w) = (packet-there b before p behind c, packet-within b before p behind c)
+  stands_there n (NotAcknowledged before p behind c e) = (packet_there b before p behind c, packet_within b before p behind c)
+  stands_there n (Unfinished h) = (take_all (length (half_sent b)) (half_sent b) (omega arith), rest_within b h)
+  stands_there n (LeftOpen before p behind c z w) = (packet_there b before p behind c, packet_within b before p behind c)
 
   -- the place that is named is the earliest
-  pub earliest-named : (n : ℕ) → (offence s b ≡ some n) ↔ Earliest s b n
-  earliest-named n = (
-    λ e. let l = subst (Least (Offends s b)) e offends-least in record { offends = l.0; first = l.1 },
-    λ h. named (offence s b) offends-least h,
+  pub earliest_named : (n : ℕ) → (offence s b ≡ some n) ↔ Earliest s b n
+  earliest_named n = (
+    λ e. let l = subst (Least (Offends s b)) e offends_least in record { offends = l.0; first = l.1 },
+    λ h. named (offence s b) offends_least h,
   )
     where
       named : (o : Option ℕ) → Least (Offends s b) o → Earliest s b n → o ≡ some n
@@ -321,9 +321,9 @@ nil_only [] h = refl
 nil_only (x ∷ l) h = never h
 
 module _ (s : Settings) (b : List ℕ) where
-  absent-is : absent (offence s b) ≡ (all_acknowledged (judgements_on s b) && (is_nil (half_sent b) && not (is_open (play s b).transfer)))
+  absent_is : absent (offence s b) ≡ (all_acknowledged (judgements_on s b) && (is_nil (half_sent b) && not (is_open (play s b).transfer)))
   unfolding offence play
-  absent-is =
+  absent_is =
       absent_both (not_acknowledged 0 (from s) (packets b)) (earlier (unfinished b) (left_open 0 0 (from s) (packets b)))
       ∙ ap₂ ◌&&◌ (absent_refused 0 (from s) (packets b))
       (absent_both (unfinished b) (left_open 0 0 (from s) (packets b)) ∙ ap₂ ◌&&◌ (absent_half b) (absent_open 0 0 (from s) (packets b)))
@@ -331,8 +331,8 @@ module _ (s : Settings) (b : List ℕ) where
   pub none_named : (offence s b ≡ none) ↔ ((all_acknowledged (judgements_on s b) ≡ true) × ((play s b).transfer ≡ Closed) × (half_sent b ≡ []))
   none_named = (
     λ e.
-        let all = sym absent-is ∙ (absent_none (offence s b)).0 e in
+        let all = sym absent_is ∙ (absent_none (offence s b)).0 e in
         let left = and_right (all_acknowledged (judgements_on s b)) _ all in
         (and_left _ _ all, closed_not (play s b).transfer (not-true _ (and_right (is_nil (half_sent b)) _ left)), nil_only (half_sent b) (and_left _ _ left)),
-    λ h. (absent_none (offence s b)).1 (absent-is ∙ rw (h.0, h.1, h.2)),
+    λ h. (absent_none (offence s b)).1 (absent_is ∙ rw (h.0, h.1, h.2)),
   )

@@ -26,7 +26,7 @@ use Rattle.command.specs.Player.{State, from, judged, next, after, play, is_nil,
 use Rattle.command.specs.declared.settings.Settings.{Settings}
 use Rattle.command.specs.declared.transfer.TransferState.{TransferState}
 use Rattle.command.specs.declared.judgement.Judgement.{Judgement}
-use Rattle.command.proofs.transfer.Laws.{held-length}
+use Rattle.command.proofs.transfer.Laws.{held_length}
 use Rattle.command.proofs.carry.Laws.{Bounded, bounded, transfer_kept_lem, carried_transfer}
 
 -- One packet that is judged as j on a head of these settings, this transfer and this buffer.
@@ -42,7 +42,7 @@ module _
     (eb : body ≡ take (length p - 1 - 6) (drop 6 p))
     (ej : j ≡ judge s.mode (transfer_in t buffer) (arrived p)) where
   fits : Bounded (held_in t + payload_length p) j
-  fits = rw ej (rw (held-length t r buffer n) at (bounded s.mode (transfer_in t buffer) (arrived p)))
+  fits = rw ej (rw (held_length t r buffer n) at (bounded s.mode (transfer_in t buffer) (arrived p)))
 
   same_body : body ≡ payload p
   unfolding size payload
@@ -50,16 +50,16 @@ module _
       let m : length p - 1 - 6 ≡ payload_length p = omega arith in
       rw (eb, m)
 
-  pub next-packet : state_in (settings_after s j) (transfer_state_after t body j) (buffer_after t buffer body j) ≡ next (state_in s t buffer) p
+  pub next_packet : state_in (settings_after s j) (transfer_state_after t body j) (buffer_after t buffer body j) ≡ next (state_in s t buffer) p
   unfolding next judged
-  next-packet =
+  next_packet =
       rw (same_body)
       (ap (λ (x : Transfer). record { settings = settings_after s j; transfer = x })
       (carried_transfer t buffer (payload p) (arrived p) j r n (payload_length_lem p w) (λ _. refl) fits)
       ∙ ap (λ (x : Judgement). record { settings = settings_after s x; transfer = transfer_after (transfer_in t buffer) (arrived p) x }) ej)
 
-  pub rule-kept : transfer_in_rule (transfer_state_after t body j) ≡ true
-  rule-kept = rw same_body (transfer_kept_lem t (payload p) (payload_length p) j (omega (arith, payload_length_lem p w)) r fits)
+  pub rule_kept : transfer_in_rule (transfer_state_after t body j) ≡ true
+  rule_kept = rw same_body (transfer_kept_lem t (payload p) (payload_length p) j (omega (arith, payload_length_lem p w)) r fits)
 
 -- The bytes up to `at` were played from s, and left the state a. `first` is where the first packet began that was not acknowledged, if one was not, and `opener` where the one did that opened the transfer of a, if one is open.
 pub record Going (s : Settings) (b : List ℕ) (a : State) (first : Option ℕ) (opener at : ℕ) : Type 0 where
@@ -119,8 +119,8 @@ module _ {s : Settings} {b : List ℕ} {a : State} {first : Option ℕ} {opener 
       }
 
   -- a packet stands there
-  pub going-packet : (n : ℕ) (right : Bool) → next_in (drop at b) ≡ Packet n right → at ≤ length b → Turned s b a first opener at n right
-  going-packet n right e l =
+  pub going_packet : (n : ℕ) (right : Bool) → next_in (drop at b) ≡ Packet n right → at ≤ length b → Turned s b a first opener at n right
+  going_packet n right e l =
       let f = next_some (drop at b) n right e in
       subst (λ (m : ℕ). Turned s b a first opener at m right) f.1 (go f.0 f.2)
     where
@@ -146,9 +146,9 @@ module _ {s : Settings} {b : List ℕ} {a : State} {first : Option ℕ} {opener 
     no_more = packets_none (drop at b) h
 
     -- bytes are left exactly where it is not the end
-    unfinished-at : unfinished b ≡ cond (ltb at (length b)) (some at) none
+    unfinished_at : unfinished b ≡ cond (ltb at (length b)) (some at) none
     unfolding unfinished bytes_in
-    unfinished-at =
+    unfinished_at =
         let n : bytes_in (packets b) ≡ at = rw no_more at g.whole ∙ omega arith in
         lt_cases at (length b)
         (λ k. rw (g.left ∙ rest_none (drop at b) h, some_left (drop at b) (simp length-drop (omega arith)), n, lt-ltb at (length b) k))
@@ -158,15 +158,15 @@ module _ {s : Settings} {b : List ℕ} {a : State} {first : Option ℕ} {opener 
     unfolding left_open
     open_at = g.openers ∙ rw no_more
 
-    first-at : not_acknowledged 0 (from s) (packets b) ≡ first
+    first_at : not_acknowledged 0 (from s) (packets b) ≡ first
     unfolding not_acknowledged
-    first-at = g.refusals ∙ rw no_more (or-none first)
+    first_at = g.refusals ∙ rw no_more (or_none first)
       where
-        or-none : (o : Option ℕ) → or_else o none ≡ o
-        or-none none = refl
-        or-none (some n) = refl
+        or_none : (o : Option ℕ) → or_else o none ≡ o
+        or_none none = refl
+        or_none (some n) = refl
 
     pub going_end : (a.settings ≡ (play s b).settings)
         × (earlier first (earlier (cond (ltb at (length b)) (some at) none) (cond (is_open a.transfer) (some opener) none)) ≡ offence s b)
     unfolding offence after
-    going_end = (sym (ap (λ (x : State). x.settings) (g.state ∙ ap (after a) no_more)), rw (first-at, unfinished-at, open_at))
+    going_end = (sym (ap (λ (x : State). x.settings) (g.state ∙ ap (after a) no_more)), rw (first_at, unfinished_at, open_at))

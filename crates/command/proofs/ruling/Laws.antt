@@ -32,38 +32,38 @@ module _ (x1 x2 x3 x4 x5 x6 x7 x8 x9 x10 x11 : ℕ) (h1 : x1 ≤ 1) (h2 : x2 ≤
   abbrev total : ℕ
   total = 2 * x1 + 4 * x2 + 8 * x3 + 16 * x4 + 32 * x5 + 64 * x6 + 128 * x7 + 256 * x8 + 512 * x9 + 1024 * x10 + 2048 * x11
 
-  bit-1 : total / 2 % 2 ≡ x1
-  bit-1 = omega (arith, h1, h2, h3, h4, h5, h6, h7, h8, h9, h10, h11)
+  bit_1 : total / 2 % 2 ≡ x1
+  bit_1 = omega (arith, h1, h2, h3, h4, h5, h6, h7, h8, h9, h10, h11)
 
-  bit-2 : total / 4 % 2 ≡ x2
-  bit-2 = omega (arith, h1, h2, h3, h4, h5, h6, h7, h8, h9, h10, h11)
+  bit_2 : total / 4 % 2 ≡ x2
+  bit_2 = omega (arith, h1, h2, h3, h4, h5, h6, h7, h8, h9, h10, h11)
 
-  bit-3 : total / 8 % 2 ≡ x3
-  bit-3 = omega (arith, h1, h2, h3, h4, h5, h6, h7, h8, h9, h10, h11)
+  bit_3 : total / 8 % 2 ≡ x3
+  bit_3 = omega (arith, h1, h2, h3, h4, h5, h6, h7, h8, h9, h10, h11)
 
-  bit-4 : total / 16 % 2 ≡ x4
-  bit-4 = omega (arith, h1, h2, h3, h4, h5, h6, h7, h8, h9, h10, h11)
+  bit_4 : total / 16 % 2 ≡ x4
+  bit_4 = omega (arith, h1, h2, h3, h4, h5, h6, h7, h8, h9, h10, h11)
 
-  bit-5 : total / 32 % 2 ≡ x5
-  bit-5 = omega (arith, h1, h2, h3, h4, h5, h6, h7, h8, h9, h10, h11)
+  bit_5 : total / 32 % 2 ≡ x5
+  bit_5 = omega (arith, h1, h2, h3, h4, h5, h6, h7, h8, h9, h10, h11)
 
-  bit-6 : total / 64 % 2 ≡ x6
-  bit-6 = omega (arith, h1, h2, h3, h4, h5, h6, h7, h8, h9, h10, h11)
+  bit_6 : total / 64 % 2 ≡ x6
+  bit_6 = omega (arith, h1, h2, h3, h4, h5, h6, h7, h8, h9, h10, h11)
 
-  bit-7 : total / 128 % 2 ≡ x7
-  bit-7 = omega (arith, h1, h2, h3, h4, h5, h6, h7, h8, h9, h10, h11)
+  bit_7 : total / 128 % 2 ≡ x7
+  bit_7 = omega (arith, h1, h2, h3, h4, h5, h6, h7, h8, h9, h10, h11)
 
-  bit-8 : total / 256 % 2 ≡ x8
-  bit-8 = omega (arith, h1, h2, h3, h4, h5, h6, h7, h8, h9, h10, h11)
+  bit_8 : total / 256 % 2 ≡ x8
+  bit_8 = omega (arith, h1, h2, h3, h4, h5, h6, h7, h8, h9, h10, h11)
 
-  bit-9 : total / 512 % 2 ≡ x9
-  bit-9 = omega (arith, h1, h2, h3, h4, h5, h6, h7, h8, h9, h10, h11)
+  bit_9 : total / 512 % 2 ≡ x9
+  bit_9 = omega (arith, h1, h2, h3, h4, h5, h6, h7, h8, h9, h10, h11)
 
-  bit-10 : total / 1024 % 2 ≡ x10
-  bit-10 = omega (arith, h1, h2, h3, h4, h5, h6, h7, h8, h9, h10, h11)
+  bit_10 : total / 1024 % 2 ≡ x10
+  bit_10 = omega (arith, h1, h2, h3, h4, h5, h6, h7, h8, h9, h10, h11)
 
-  bit-11 : total / 2048 % 2 ≡ x11
-  bit-11 = omega (arith, h1, h2, h3, h4, h5, h6, h7, h8, h9, h10, h11)
+  bit_11 : total / 2048 % 2 ≡ x11
+  bit_11 = omega (arith, h1, h2, h3, h4, h5, h6, h7, h8, h9, h10, h11)
 
 -- the codes without the byte that is wrong
 abbrev pub codes_alone : Codes → Codes
@@ -90,39 +90,39 @@ module _ (k : Codes) where
   mask_is = rw (bit_is k.failure 2, bit_is k.command 4, bit_is k.parameter 8, bit_is k.memory 16, bit_is k.device 32, bit_is k.busy 64, bit_is k.precondition 128, bit_is k.object 256, bit_is k.checksum 512, bit_is k.format 1024, bit_is k.continuation 2048)
 
   has_1 : has_bit (mask_of k) 1 ≡ k.failure
-  has_1 = one_test k.failure (mask_of k / 2 % 2) (ap (λ (m : ℕ). m / 2 % 2) mask_is ∙ bit-1 (one k.failure) (one k.command) (one k.parameter) (one k.memory) (one k.device) (one k.busy) (one k.precondition) (one k.object) (one k.checksum) (one k.format) (one k.continuation) (one_most k.failure) (one_most k.command) (one_most k.parameter) (one_most k.memory) (one_most k.device) (one_most k.busy) (one_most k.precondition) (one_most k.object) (one_most k.checksum) (one_most k.format) (one_most k.continuation))
+  has_1 = one_test k.failure (mask_of k / 2 % 2) (ap (λ (m : ℕ). m / 2 % 2) mask_is ∙ bit_1 (one k.failure) (one k.command) (one k.parameter) (one k.memory) (one k.device) (one k.busy) (one k.precondition) (one k.object) (one k.checksum) (one k.format) (one k.continuation) (one_most k.failure) (one_most k.command) (one_most k.parameter) (one_most k.memory) (one_most k.device) (one_most k.busy) (one_most k.precondition) (one_most k.object) (one_most k.checksum) (one_most k.format) (one_most k.continuation))
 
-  has-2 : has_bit (mask_of k) 2 ≡ k.command
-  has-2 = one_test k.command (mask_of k / 4 % 2) (ap (λ (m : ℕ). m / 4 % 2) mask_is ∙ bit-2 (one k.failure) (one k.command) (one k.parameter) (one k.memory) (one k.device) (one k.busy) (one k.precondition) (one k.object) (one k.checksum) (one k.format) (one k.continuation) (one_most k.failure) (one_most k.command) (one_most k.parameter) (one_most k.memory) (one_most k.device) (one_most k.busy) (one_most k.precondition) (one_most k.object) (one_most k.checksum) (one_most k.format) (one_most k.continuation))
+  has_2 : has_bit (mask_of k) 2 ≡ k.command
+  has_2 = one_test k.command (mask_of k / 4 % 2) (ap (λ (m : ℕ). m / 4 % 2) mask_is ∙ bit_2 (one k.failure) (one k.command) (one k.parameter) (one k.memory) (one k.device) (one k.busy) (one k.precondition) (one k.object) (one k.checksum) (one k.format) (one k.continuation) (one_most k.failure) (one_most k.command) (one_most k.parameter) (one_most k.memory) (one_most k.device) (one_most k.busy) (one_most k.precondition) (one_most k.object) (one_most k.checksum) (one_most k.format) (one_most k.continuation))
 
-  has-3 : has_bit (mask_of k) 3 ≡ k.parameter
-  has-3 = one_test k.parameter (mask_of k / 8 % 2) (ap (λ (m : ℕ). m / 8 % 2) mask_is ∙ bit-3 (one k.failure) (one k.command) (one k.parameter) (one k.memory) (one k.device) (one k.busy) (one k.precondition) (one k.object) (one k.checksum) (one k.format) (one k.continuation) (one_most k.failure) (one_most k.command) (one_most k.parameter) (one_most k.memory) (one_most k.device) (one_most k.busy) (one_most k.precondition) (one_most k.object) (one_most k.checksum) (one_most k.format) (one_most k.continuation))
+  has_3 : has_bit (mask_of k) 3 ≡ k.parameter
+  has_3 = one_test k.parameter (mask_of k / 8 % 2) (ap (λ (m : ℕ). m / 8 % 2) mask_is ∙ bit_3 (one k.failure) (one k.command) (one k.parameter) (one k.memory) (one k.device) (one k.busy) (one k.precondition) (one k.object) (one k.checksum) (one k.format) (one k.continuation) (one_most k.failure) (one_most k.command) (one_most k.parameter) (one_most k.memory) (one_most k.device) (one_most k.busy) (one_most k.precondition) (one_most k.object) (one_most k.checksum) (one_most k.format) (one_most k.continuation))
 
-  has-4 : has_bit (mask_of k) 4 ≡ k.memory
-  has-4 = one_test k.memory (mask_of k / 16 % 2) (ap (λ (m : ℕ). m / 16 % 2) mask_is ∙ bit-4 (one k.failure) (one k.command) (one k.parameter) (one k.memory) (one k.device) (one k.busy) (one k.precondition) (one k.object) (one k.checksum) (one k.format) (one k.continuation) (one_most k.failure) (one_most k.command) (one_most k.parameter) (one_most k.memory) (one_most k.device) (one_most k.busy) (one_most k.precondition) (one_most k.object) (one_most k.checksum) (one_most k.format) (one_most k.continuation))
+  has_4 : has_bit (mask_of k) 4 ≡ k.memory
+  has_4 = one_test k.memory (mask_of k / 16 % 2) (ap (λ (m : ℕ). m / 16 % 2) mask_is ∙ bit_4 (one k.failure) (one k.command) (one k.parameter) (one k.memory) (one k.device) (one k.busy) (one k.precondition) (one k.object) (one k.checksum) (one k.format) (one k.continuation) (one_most k.failure) (one_most k.command) (one_most k.parameter) (one_most k.memory) (one_most k.device) (one_most k.busy) (one_most k.precondition) (one_most k.object) (one_most k.checksum) (one_most k.format) (one_most k.continuation))
 
-  has-5 : has_bit (mask_of k) 5 ≡ k.device
-  has-5 = one_test k.device (mask_of k / 32 % 2) (ap (λ (m : ℕ). m / 32 % 2) mask_is ∙ bit-5 (one k.failure) (one k.command) (one k.parameter) (one k.memory) (one k.device) (one k.busy) (one k.precondition) (one k.object) (one k.checksum) (one k.format) (one k.continuation) (one_most k.failure) (one_most k.command) (one_most k.parameter) (one_most k.memory) (one_most k.device) (one_most k.busy) (one_most k.precondition) (one_most k.object) (one_most k.checksum) (one_most k.format) (one_most k.continuation))
+  has_5 : has_bit (mask_of k) 5 ≡ k.device
+  has_5 = one_test k.device (mask_of k / 32 % 2) (ap (λ (m : ℕ). m / 32 % 2) mask_is ∙ bit_5 (one k.failure) (one k.command) (one k.parameter) (one k.memory) (one k.device) (one k.busy) (one k.precondition) (one k.object) (one k.checksum) (one k.format) (one k.continuation) (one_most k.failure) (one_most k.command) (one_most k.parameter) (one_most k.memory) (one_most k.device) (one_most k.busy) (one_most k.precondition) (one_most k.object) (one_most k.checksum) (one_most k.format) (one_most k.continuation))
 
-  has-6 : has_bit (mask_of k) 6 ≡ k.busy
-  has-6 = one_test k.busy (mask_of k / 64 % 2) (ap (λ (m : ℕ). m / 64 % 2) mask_is ∙ bit-6 (one k.failure) (one k.command) (one k.parameter) (one k.memory) (one k.device) (one k.busy) (one k.precondition) (one k.object) (one k.checksum) (one k.format) (one k.continuation) (one_most k.failure) (one_most k.command) (one_most k.parameter) (one_most k.memory) (one_most k.device) (one_most k.busy) (one_most k.precondition) (one_most k.object) (one_most k.checksum) (one_most k.format) (one_most k.continuation))
+  has_6 : has_bit (mask_of k) 6 ≡ k.busy
+  has_6 = one_test k.busy (mask_of k / 64 % 2) (ap (λ (m : ℕ). m / 64 % 2) mask_is ∙ bit_6 (one k.failure) (one k.command) (one k.parameter) (one k.memory) (one k.device) (one k.busy) (one k.precondition) (one k.object) (one k.checksum) (one k.format) (one k.continuation) (one_most k.failure) (one_most k.command) (one_most k.parameter) (one_most k.memory) (one_most k.device) (one_most k.busy) (one_most k.precondition) (one_most k.object) (one_most k.checksum) (one_most k.format) (one_most k.continuation))
 
-  has-7 : has_bit (mask_of k) 7 ≡ k.precondition
-  has-7 = one_test k.precondition (mask_of k / 128 % 2) (ap (λ (m : ℕ). m / 128 % 2) mask_is ∙ bit-7 (one k.failure) (one k.command) (one k.parameter) (one k.memory) (one k.device) (one k.busy) (one k.precondition) (one k.object) (one k.checksum) (one k.format) (one k.continuation) (one_most k.failure) (one_most k.command) (one_most k.parameter) (one_most k.memory) (one_most k.device) (one_most k.busy) (one_most k.precondition) (one_most k.object) (one_most k.checksum) (one_most k.format) (one_most k.continuation))
+  has_7 : has_bit (mask_of k) 7 ≡ k.precondition
+  has_7 = one_test k.precondition (mask_of k / 128 % 2) (ap (λ (m : ℕ). m / 128 % 2) mask_is ∙ bit_7 (one k.failure) (one k.command) (one k.parameter) (one k.memory) (one k.device) (one k.busy) (one k.precondition) (one k.object) (one k.checksum) (one k.format) (one k.continuation) (one_most k.failure) (one_most k.command) (one_most k.parameter) (one_most k.memory) (one_most k.device) (one_most k.busy) (one_most k.precondition) (one_most k.object) (one_most k.checksum) (one_most k.format) (one_most k.continuation))
 
-  has-8 : has_bit (mask_of k) 8 ≡ k.object
-  has-8 = one_test k.object (mask_of k / 256 % 2) (ap (λ (m : ℕ). m / 256 % 2) mask_is ∙ bit-8 (one k.failure) (one k.command) (one k.parameter) (one k.memory) (one k.device) (one k.busy) (one k.precondition) (one k.object) (one k.checksum) (one k.format) (one k.continuation) (one_most k.failure) (one_most k.command) (one_most k.parameter) (one_most k.memory) (one_most k.device) (one_most k.busy) (one_most k.precondition) (one_most k.object) (one_most k.checksum) (one_most k.format) (one_most k.continuation))
+  has_8 : has_bit (mask_of k) 8 ≡ k.object
+  has_8 = one_test k.object (mask_of k / 256 % 2) (ap (λ (m : ℕ). m / 256 % 2) mask_is ∙ bit_8 (one k.failure) (one k.command) (one k.parameter) (one k.memory) (one k.device) (one k.busy) (one k.precondition) (one k.object) (one k.checksum) (one k.format) (one k.continuation) (one_most k.failure) (one_most k.command) (one_most k.parameter) (one_most k.memory) (one_most k.device) (one_most k.busy) (one_most k.precondition) (one_most k.object) (one_most k.checksum) (one_most k.format) (one_most k.continuation))
 
-  has-9 : has_bit (mask_of k) 9 ≡ k.checksum
-  has-9 = one_test k.checksum (mask_of k / 512 % 2) (ap (λ (m : ℕ). m / 512 % 2) mask_is ∙ bit-9 (one k.failure) (one k.command) (one k.parameter) (one k.memory) (one k.device) (one k.busy) (one k.precondition) (one k.object) (one k.checksum) (one k.format) (one k.continuation) (one_most k.failure) (one_most k.command) (one_most k.parameter) (one_most k.memory) (one_most k.device) (one_most k.busy) (one_most k.precondition) (one_most k.object) (one_most k.checksum) (one_most k.format) (one_most k.continuation))
+  has_9 : has_bit (mask_of k) 9 ≡ k.checksum
+  has_9 = one_test k.checksum (mask_of k / 512 % 2) (ap (λ (m : ℕ). m / 512 % 2) mask_is ∙ bit_9 (one k.failure) (one k.command) (one k.parameter) (one k.memory) (one k.device) (one k.busy) (one k.precondition) (one k.object) (one k.checksum) (one k.format) (one k.continuation) (one_most k.failure) (one_most k.command) (one_most k.parameter) (one_most k.memory) (one_most k.device) (one_most k.busy) (one_most k.precondition) (one_most k.object) (one_most k.checksum) (one_most k.format) (one_most k.continuation))
 
-  has-10 : has_bit (mask_of k) 10 ≡ k.format
-  has-10 = one_test k.format (mask_of k / 1024 % 2) (ap (λ (m : ℕ). m / 1024 % 2) mask_is ∙ bit-10 (one k.failure) (one k.command) (one k.parameter) (one k.memory) (one k.device) (one k.busy) (one k.precondition) (one k.object) (one k.checksum) (one k.format) (one k.continuation) (one_most k.failure) (one_most k.command) (one_most k.parameter) (one_most k.memory) (one_most k.device) (one_most k.busy) (one_most k.precondition) (one_most k.object) (one_most k.checksum) (one_most k.format) (one_most k.continuation))
+  has_10 : has_bit (mask_of k) 10 ≡ k.format
+  has_10 = one_test k.format (mask_of k / 1024 % 2) (ap (λ (m : ℕ). m / 1024 % 2) mask_is ∙ bit_10 (one k.failure) (one k.command) (one k.parameter) (one k.memory) (one k.device) (one k.busy) (one k.precondition) (one k.object) (one k.checksum) (one k.format) (one k.continuation) (one_most k.failure) (one_most k.command) (one_most k.parameter) (one_most k.memory) (one_most k.device) (one_most k.busy) (one_most k.precondition) (one_most k.object) (one_most k.checksum) (one_most k.format) (one_most k.continuation))
 
-  has-11 : has_bit (mask_of k) 11 ≡ k.continuation
-  has-11 = one_test k.continuation (mask_of k / 2048 % 2) (ap (λ (m : ℕ). m / 2048 % 2) mask_is ∙ bit-11 (one k.failure) (one k.command) (one k.parameter) (one k.memory) (one k.device) (one k.busy) (one k.precondition) (one k.object) (one k.checksum) (one k.format) (one k.continuation) (one_most k.failure) (one_most k.command) (one_most k.parameter) (one_most k.memory) (one_most k.device) (one_most k.busy) (one_most k.precondition) (one_most k.object) (one_most k.checksum) (one_most k.format) (one_most k.continuation))
+  has_11 : has_bit (mask_of k) 11 ≡ k.continuation
+  has_11 = one_test k.continuation (mask_of k / 2048 % 2) (ap (λ (m : ℕ). m / 2048 % 2) mask_is ∙ bit_11 (one k.failure) (one k.command) (one k.parameter) (one k.memory) (one k.device) (one k.busy) (one k.precondition) (one k.object) (one k.checksum) (one k.format) (one k.continuation) (one_most k.failure) (one_most k.command) (one_most k.parameter) (one_most k.memory) (one_most k.device) (one_most k.busy) (one_most k.precondition) (one_most k.object) (one_most k.checksum) (one_most k.format) (one_most k.continuation))
 
   -- the number says the codes that it was made of
-  pub mask-told : codes_told (mask_of k) ≡ codes_alone k
+  pub mask_told : codes_told (mask_of k) ≡ codes_alone k
   unfolding codes_told
-  mask-told = rw (has_1, has-2, has-3, has-4, has-5, has-6, has-7, has-8, has-9, has-10, has-11)
+  mask_told = rw (has_1, has_2, has_3, has_4, has_5, has_6, has_7, has_8, has_9, has_10, has_11)

@@ -110,9 +110,9 @@ fits_hold f t p h = let k = faultless f t p h in go t k.memory k.continuation
 
 -- A transfer by the controller's numbers, in rule: none is open, or one for a command of the table.
 module _ (t : TransferState) (r : transfer_in_rule t ≡ true) where
-  pub by-transfer : {P : Type 0} → (eqb t.active 0 ≡ true → P) → ((c : Command) → eqb t.active 0 ≡ false → command_of t.cmd1 t.cmd2 ≡ Known c → P) → P
+  pub by_transfer : {P : Type 0} → (eqb t.active 0 ≡ true → P) → ((c : Command) → eqb t.active 0 ≡ false → command_of t.cmd1 t.cmd2 ≡ Known c → P) → P
   unfolding transfer_in_rule
-  by-transfer none some =
+  by_transfer none some =
       bool_cases (eqb t.active 0) none
       (λ e. known (command_of t.cmd1 t.cmd2) refl
       (subst (λ (b : Bool). (b || is_known (command_of t.cmd1 t.cmd2)) ≡ true) e
@@ -127,8 +127,8 @@ module _ (t : TransferState) (r : transfer_in_rule t ≡ true) where
   unfolding transfer_in_rule
   count_most = leb-true t.held 1024 (and_left (leb t.held 1024) (eqb t.active 0 || is_known (command_of t.cmd1 t.cmd2)) r)
 
-  pub held-most : held_in t ≤ 1024
-  held-most = bool_cases (eqb t.active 0) (λ e. rw e (omega arith)) (λ e. rw e count_most)
+  pub held_most : held_in t ≤ 1024
+  held_most = bool_cases (eqb t.active 0) (λ e. rw e (omega arith)) (λ e. rw e count_most)
 
   same_code : (c d : Command) → command_of t.cmd1 t.cmd2 ≡ Known d → same c d ≡ has_code t.cmd1 t.cmd2 c
   same_code c d k =
@@ -144,21 +144,21 @@ module _ (t : TransferState) (r : transfer_in_rule t ≡ true) where
   -- It is document 01's transfer, its held data being the first bytes of the buffer.
   module _ (buffer : List ℕ) where
     pub held_is : held (transfer_in t buffer) ≡ take (held_in t) buffer
-    held_is = by-transfer (λ e. rw e) (λ c e k. rw (e, k))
+    held_is = by_transfer (λ e. rw e) (λ c e k. rw (e, k))
 
     pub open_is : is_open (transfer_in t buffer) ≡ is_open_in t
-    open_is = by-transfer (λ e. rw e) (λ c e k. rw (e, k))
+    open_is = by_transfer (λ e. rw e) (λ c e k. rw (e, k))
 
-    pub open-for-is : (f : Found) → open_for f (transfer_in t buffer) ≡ open_for_in f t
-    open-for-is Unknown = refl
-    open-for-is (Known c) = by-transfer (λ e. rw e) (λ d e k. rw (e, k) (same_code c d k))
+    pub open_for_is : (f : Found) → open_for f (transfer_in t buffer) ≡ open_for_in f t
+    open_for_is Unknown = refl
+    open_for_is (Known c) = by_transfer (λ e. rw e) (λ d e k. rw (e, k) (same_code c d k))
 
     module _ (n : length buffer ≡ 1024) where
-      pub held-length : length (held (transfer_in t buffer)) ≡ held_in t
-      held-length = ap length held_is ∙ length-take-le (held_in t) buffer (omega (arith, held-most))
+      pub held_length : length (held (transfer_in t buffer)) ≡ held_in t
+      held_length = ap length held_is ∙ length-take-le (held_in t) buffer (omega (arith, held_most))
 
       -- the codes of the first group
-      pub faults-are : (f : Found) (p : Arrived)
+      pub faults_are : (f : Found) (p : Arrived)
           → faults f (transfer_in t buffer) p ≡ faults_of f (is_open_in t) (open_for_in f t) (held_in t) p.type p.flags p.size p.right
       unfolding faults faults_of
-      faults-are f p = rw (open_is, open-for-is f, held-length)
+      faults_are f p = rw (open_is, open_for_is f, held_length)

@@ -8,7 +8,7 @@ use Rattle.packet.specs.Calls.{Served, and_then, calls_on, served_one}
 use Rattle.packet.proofs.Cases.{bool_cases}
 use Rattle.packet.proofs.BytesLaws.{sets_get}
 use Rattle.packet.proofs.StreamLaws.{IsPacket, packets_cons, rest_cons, packets_none, rest_none, packet_induction}
-use Rattle.packet.proofs.Calls.{same-calls, at_once}
+use Rattle.packet.proofs.Calls.{same_calls, at_once}
 use Rattle.packet.specs.Writer.{written}
 use Rattle.packet.specs.Receiver.{Receiver as PacketReceiver, Received, with, waiting as packetWaiting}
 use Rattle.packet.proofs.ReceiverLaws.{Between, after_packet, right_from, one, first_of, too_few}
@@ -24,7 +24,7 @@ use Rattle.dlpc200.specs.Endpoint.{arrived_in, judged_in, response_in, After, an
 use Rattle.dlpc200.specs.Sending.{shown, serves, Sending, sent_to, Ready, Boundary}
 use Rattle.dlpc200.specs.Request1.{Follows}
 use Rattle.dlpc200.specs.declared.device.Device.{Device}
-use Rattle.dlpc200.proofs.endpoint.Laws.{Made, made, device_after, not_refused, stays_in_rule, endpoint-streams, any_output}
+use Rattle.dlpc200.proofs.endpoint.Laws.{Made, made, device_after, not_refused, stays_in_rule, endpoint_streams, any_output}
 
 -- The packet that the receiver has received is the packet of its bytes.
 module _ (p : List ℕ) (i : IsPacket p) (hold : List ℕ) (m : length hold ≡ 4) where
@@ -47,8 +47,8 @@ module _ (p : List ℕ) (i : IsPacket p) (hold : List ℕ) (m : length hold ≡ 
       let l : 2 ≤ length d = omega (arith, data_length, ltb-false (payload_length p) 2 e) in
       rw (sets_get d hold 0 (omega arith) (omega arith), sets_get d hold 1 (omega arith) (omega arith)))
 
-  same-arrived : arrived_by (take 6 p) (sets hold 0 d) (right_sum p) ≡ arrived p
-  same-arrived =
+  same_arrived : arrived_by (take 6 p) (sets hold 0 d) (right_sum p) ≡ arrived p
+  same_arrived =
       rw (get_or-take 6 p 0 0 (omega arith), get_or-take 6 p 1 0 (omega arith), get_or-take 6 p 3 0 (omega arith), get_or-take 6 p 4 0 (omega arith), get_or-take 6 p 5 0 (omega arith), same_command_lem)
 
 -- its checksum is right where that over everything after CMD4 is
@@ -62,20 +62,20 @@ arrived_in_lem t = refl
 
 -- so it is judged as that, and draws what that draws
 module _ (s : States) (q : PacketReceiver) (m : Made q) (p : List ℕ) (i : IsPacket p) where
-  same-packet : arrived_in (one after_cmd4 q p) ≡ arrived p
-  same-packet = arrived_in_lem (one after_cmd4 q p) ∙ ap (arrived_by (take 6 p) (sets q.hold 0 (payload p))) (same_right p) ∙ same-arrived p i q.hold m.hold
+  same_packet : arrived_in (one after_cmd4 q p) ≡ arrived p
+  same_packet = arrived_in_lem (one after_cmd4 q p) ∙ ap (arrived_by (take 6 p) (sets q.hold 0 (payload p))) (same_right p) ∙ same_arrived p i q.hold m.hold
 
-  same-judged : judged_in (one after_cmd4 q p) ≡ judged p
+  same_judged : judged_in (one after_cmd4 q p) ≡ judged p
   unfolding judged_in judged
-  same-judged = ap judge same-packet
+  same_judged = ap judge same_packet
 
-  same-response : response_in s (one after_cmd4 q p) ≡ answer_to s p
+  same_response : response_in s (one after_cmd4 q p) ≡ answer_to s p
   unfolding response_in answer_to
-  same-response = ap₂ (response s) same-packet same-judged
+  same_response = ap₂ (response s) same_packet same_judged
 
-  same-states : states_after s (judged_in (one after_cmd4 q p)) ≡ next s p
+  same_states : states_after s (judged_in (one after_cmd4 q p)) ≡ next s p
   unfolding next
-  same-states = ap (states_after s) same-judged
+  same_states = ap (states_after s) same_judged
 
 -- the receiver of a device between two packets is between them
 between : (d : Device) → Boundary d → Between (receiver_of d)
@@ -86,9 +86,9 @@ module _ (out : List ℕ) (l : 64 ≤ length out) where
   abbrev Claim : List ℕ → Type 0
   Claim b = (d : Device) → Boundary d → Follows d b (served_one (serves out) d b)
 
-  follows-none : (b : List ℕ) → has_packet b ≡ false → Claim b
+  follows_none : (b : List ℕ) → has_packet b ≡ false → Claim b
   unfolding served_one calls_on responses after packetWaiting
-  follows-none b h d z =
+  follows_none b h d z =
       let k = z.ready in
       let q = between d z in
       let e : receive_call d b out ≡ record { answer = Waits (length b); device = device_after d b; output = out } =
@@ -106,9 +106,9 @@ module _ (out : List ℕ) (l : 64 ≤ length out) where
       })
 
   -- one packet more
-  follows-more : (p b : List ℕ) → IsPacket p → Claim b → Claim (p ++ b)
+  follows_more : (p b : List ℕ) → IsPacket p → Claim b → Claim (p ++ b)
   unfolding served_one calls_on responses after written
-  follows-more p b i ih d z =
+  follows_more p b i ih d z =
       let k = z.ready in
       let q = between d z in
       let t : Received = one after_cmd4 (receiver_of d) p in
@@ -121,17 +121,17 @@ module _ (out : List ℕ) (l : 64 ≤ length out) where
       let n : length (p ++ b) ≡ length p + length b = length-append p b in
       let rest-calls : calls_on (serves out) (length (p ++ b)) x (drop (length p) (p ++ b)) ≡ served_one (serves out) x b =
       ap (calls_on (serves out) (length (p ++ b)) x) (drop_at p b (length p) refl)
-      ∙ same-calls (serves out) Ready (endpoint-streams out l) (length (p ++ b)) (suc (length b)) x b kx (omega (arith, i.least)) (omega arith) in
+      ∙ same_calls (serves out) Ready (endpoint_streams out l) (length (p ++ b)) (suc (length b)) x b kx (omega (arith, i.least)) (omega arith) in
       let f : served_one (serves out) d (p ++ b) ≡ record { given = m ∷ (served_one (serves out) x b).given; state = (served_one (serves out) x b).state } =
       ap (λ (r : After). and_then (shown r).gives (shown r).state (calls_on (serves out) (length (p ++ b)) (shown r).state (drop (shown r).taken (p ++ b)))) e
       ∙ ap (λ (y : List ℕ). and_then (some y) x (calls_on (serves out) (length (p ++ b)) x (drop (length p) (p ++ b)))) (take_at m (drop (length m) out) (length m) refl)
       ∙ ap (λ (y : Served Device (List ℕ)). and_then (some m) x y) rest-calls in
       let g = ih x (record { ready = kx; received = refl }) in
-      let s : x.states ≡ next d.states p = same-states d.states (receiver_of d) (made d k) p i in
+      let s : x.states ≡ next d.states p = same_states d.states (receiver_of d) (made d k) p i in
       subst (Follows d (p ++ b)) (sym f)
       (record {
         given =
-            ap₂ {C = List (List ℕ)} (λ y ys. y ∷ ys) (same-response d.states (receiver_of d) (made d k) p i) (g.given ∙ ap (λ (a : States). responses a (packets b)) s)
+            ap₂ {C = List (List ℕ)} (λ y ys. y ∷ ys) (same_response d.states (receiver_of d) (made d k) p i) (g.given ∙ ap (λ (a : States). responses a (packets b)) s)
             ∙ sym (ap (responses d.states) (packets_cons p b i));
         ends = g.ends ∙ ap (λ (a : States). after a (packets b)) s ∙ sym (ap (after d.states) (packets_cons p b i));
         base = g.base;
@@ -141,7 +141,7 @@ module _ (out : List ℕ) (l : 64 ≤ length out) where
       })
 
   follows : (b : List ℕ) → Claim b
-  follows = packet_induction Claim follows-none follows-more
+  follows = packet_induction Claim follows_none follows_more
 
 -- Over whole streams, however they are sent: the responses in order, the states and the unfinished packet are those of judging the stream's packets one after the
 -- other.

@@ -6,7 +6,7 @@ use Rattle.packet.specs.Packet.{payload_length}
 use Rattle.packet.specs.Receiver.{Receiver as PacketReceiver, Received, running_with, with, missing, waiting as packetWaiting, completed, receiving as packetReceiving, packet_in_rule}
 use Rattle.packet.specs.Writer.{written}
 use Rattle.packet.proofs.Cases.{lt_cases, and_left, and_right, and_both}
-use Rattle.packet.proofs.ReceiverLaws.{running-anew, with_nil, hold_length, missing_least, after, cut, behind, waits, completes}
+use Rattle.packet.proofs.ReceiverLaws.{running_anew, with_nil, hold_length, missing_least, after, cut, behind, waits, completes}
 use Rattle.packet.proofs.Calls.{Streaming, shifted, AnyOutput}
 use Rattle.dlpc200.specs.Packet.{after_cmd4}
 use Rattle.dlpc200.specs.States.{in_range}
@@ -60,13 +60,13 @@ module _ (d : Device) (b out : List ℕ) (k : Ready d) (l : 64 ≤ length out) w
   abbrev wanted : ℕ
   wanted = missing (receiver_of d) b
 
-  call-waits : length b < wanted → receive_call d b out ≡ record { answer = Waits (length b); device = device_after d b; output = out }
+  call_waits : length b < wanted → receive_call d b out ≡ record { answer = Waits (length b); device = device_after d b; output = out }
   unfolding packetWaiting
-  call-waits h = not_refused d b out k.rule l ∙ ap (λ (t : Received). ended d.states t out) (waits after_cmd4 (receiver_of d) b h)
+  call_waits h = not_refused d b out k.rule l ∙ ap (λ (t : Received). ended d.states t out) (waits after_cmd4 (receiver_of d) b h)
 
-  call-answers : wanted ≤ length b → receive_call d b out ≡ answered d.states (completed after_cmd4 (receiver_of d) b wanted) out
+  call_answers : wanted ≤ length b → receive_call d b out ≡ answered d.states (completed after_cmd4 (receiver_of d) b wanted) out
   unfolding completed
-  call-answers h = not_refused d b out k.rule l ∙ ap (λ (t : Received). ended d.states t out) (completes after_cmd4 (receiver_of d) b h)
+  call_answers h = not_refused d b out k.rule l ∙ ap (λ (t : Received). ended d.states t out) (completes after_cmd4 (receiver_of d) b h)
 
 -- what is received of a packet that is not complete is short of its size
 few : (d : Device) (b : List ℕ) → in_rule d ≡ true → length b < missing (receiver_of d) b
@@ -100,8 +100,8 @@ ready_answered d b out n k =
 pub stays_in_rule : (d : Device) (b out : List ℕ) → Ready d → 64 ≤ length out → Ready (receive_call d b out).device
 stays_in_rule d b out k l =
     lt_cases (length b) (missing (receiver_of d) b)
-    (λ h. subst (λ (r : After). Ready r.device) (sym (call-waits d b out k l h)) (ready_waiting d b k h))
-    (λ h. subst (λ (r : After). Ready r.device) (sym (call-answers d b out k l h)) (ready_answered d b out (missing (receiver_of d) b) k))
+    (λ h. subst (λ (r : After). Ready r.device) (sym (call_waits d b out k l h)) (ready_waiting d b k h))
+    (λ h. subst (λ (r : After). Ready r.device) (sym (call_answers d b out k l h)) (ready_answered d b out (missing (receiver_of d) b) k))
 
 -- With up to four bytes received the sum begins anew.
 
@@ -110,62 +110,62 @@ abbrev other_sum : PacketReceiver → ℕ → PacketReceiver
 other_sum q n = record { header = q.header; running = n; received = q.received; hold = q.hold }
 
 module _ (q : PacketReceiver) (n : ℕ) (l : q.received ≤ after_cmd4) where
-  with-anew : (b : List ℕ) → after_cmd4 < q.received + length b → with after_cmd4 (other_sum q n) b ≡ with after_cmd4 q b
+  with_anew : (b : List ℕ) → after_cmd4 < q.received + length b → with after_cmd4 (other_sum q n) b ≡ with after_cmd4 q b
   unfolding with
-  with-anew b m =
+  with_anew b m =
       let e : running_with after_cmd4 q.received n b ≡ running_with after_cmd4 q.received q.running b =
-      sym (running-anew after_cmd4 q.received n b (omega arith) l refl) ∙ running-anew after_cmd4 q.received q.running b (omega arith) l refl in
+      sym (running_anew after_cmd4 q.received n b (omega arith) l refl) ∙ running_anew after_cmd4 q.received q.running b (omega arith) l refl in
       rw e
 
-  waiting-anew : (b : List ℕ) → after_cmd4 < q.received + length b → packetWaiting after_cmd4 (other_sum q n) b ≡ packetWaiting after_cmd4 q b
+  waiting_anew : (b : List ℕ) → after_cmd4 < q.received + length b → packetWaiting after_cmd4 (other_sum q n) b ≡ packetWaiting after_cmd4 q b
   unfolding packetWaiting
-  waiting-anew b m = rw (with-anew b m)
+  waiting_anew b m = rw (with_anew b m)
 
   -- before the checksum stands the length at least
   length_before : (b : List ℕ) → missing q b ≤ length b → after_cmd4 < q.received + length (take (missing q b - 1) b)
   unfolding missing
   length_before b m = omega (arith, length-take-le (missing q b - 1) b (omega arith))
 
-  completed-anew : (b : List ℕ) → missing q b ≤ length b → completed after_cmd4 (other_sum q n) b (missing q b) ≡ completed after_cmd4 q b (missing q b)
+  completed_anew : (b : List ℕ) → missing q b ≤ length b → completed after_cmd4 (other_sum q n) b (missing q b) ≡ completed after_cmd4 q b (missing q b)
   unfolding completed
-  completed-anew b m = rw (with-anew (take (missing q b - 1) b) (length_before b m))
+  completed_anew b m = rw (with_anew (take (missing q b - 1) b) (length_before b m))
 
-  missing-anew : (b : List ℕ) → missing (other_sum q n) b ≡ missing q b
+  missing_anew : (b : List ℕ) → missing (other_sum q n) b ≡ missing q b
   unfolding missing
-  missing-anew b = refl
+  missing_anew b = refl
 
-  receiving-anew : (b : List ℕ) → after_cmd4 < q.received + length b → packetReceiving after_cmd4 (other_sum q n) b ≡ packetReceiving after_cmd4 q b
-  receiving-anew b m =
+  receiving_anew : (b : List ℕ) → after_cmd4 < q.received + length b → packetReceiving after_cmd4 (other_sum q n) b ≡ packetReceiving after_cmd4 q b
+  receiving_anew b m =
       lt_cases (length b) (missing q b)
-      (λ h. waits after_cmd4 (other_sum q n) b (omega (arith, missing-anew b)) ∙ waiting-anew b m ∙ sym (waits after_cmd4 q b h))
+      (λ h. waits after_cmd4 (other_sum q n) b (omega (arith, missing_anew b)) ∙ waiting_anew b m ∙ sym (waits after_cmd4 q b h))
       (λ h.
-      completes after_cmd4 (other_sum q n) b (omega (arith, missing-anew b))
-      ∙ ap (completed after_cmd4 (other_sum q n) b) (missing-anew b)
-      ∙ completed-anew b h
+      completes after_cmd4 (other_sum q n) b (omega (arith, missing_anew b))
+      ∙ ap (completed after_cmd4 (other_sum q n) b) (missing_anew b)
+      ∙ completed_anew b h
       ∙ sym (completes after_cmd4 q b h))
 
 pub sum_begins : (d : Device) (n : ℕ) (b out : List ℕ) → 64 ≤ length out → in_rule d ≡ true → d.received ≤ after_cmd4
     → after_cmd4 < d.received + length b → receive_call (with_sum d n) b out ≡ receive_call d b out
 sum_begins d n b out l r h m =
     not_refused (with_sum d n) b out r l
-    ∙ ap (λ (t : Received). ended d.states t out) (receiving-anew (receiver_of d) n h b m)
+    ∙ ap (λ (t : Received). ended d.states t out) (receiving_anew (receiver_of d) n h b m)
     ∙ sym (not_refused d b out r l)
 
 -- The receive call over a stream.
 module _ (out : List ℕ) (l : 64 ≤ length out) where
-  none-waits : (d : Device) (a : List ℕ) → Ready d → (serves out d a).gives ≡ none → length a < missing (receiver_of d) a
-  none-waits d a k g =
+  none_waits : (d : Device) (a : List ℕ) → Ready d → (serves out d a).gives ≡ none → length a < missing (receiver_of d) a
+  none_waits d a k g =
       lt_cases (length a) (missing (receiver_of d) a)
       (λ h. h)
       (λ h.
-      let e = sym (ap (λ (r : After). (shown r).gives) (call-answers d a out k l h)) ∙ g in
+      let e = sym (ap (λ (r : After). (shown r).gives) (call_answers d a out k l h)) ∙ g in
       let z : ◌≡◌ {A = ℕ} 0 1 = cc in absurd (omega arith))
 
-  some-answers : (d : Device) (a e : List ℕ) → Ready d → (serves out d a).gives ≡ some e → missing (receiver_of d) a ≤ length a
-  some-answers d a e k g =
+  some_answers : (d : Device) (a e : List ℕ) → Ready d → (serves out d a).gives ≡ some e → missing (receiver_of d) a ≤ length a
+  some_answers d a e k g =
       lt_cases (length a) (missing (receiver_of d) a)
       (λ h.
-      let e = sym (ap (λ (r : After). (shown r).gives) (call-waits d a out k l h)) ∙ g in
+      let e = sym (ap (λ (r : After). (shown r).gives) (call_waits d a out k l h)) ∙ g in
       let z : ◌≡◌ {A = ℕ} 0 1 = cc in absurd (omega arith))
       (λ h. h)
 
@@ -175,41 +175,41 @@ module _ (out : List ℕ) (l : 64 ≤ length out) where
   shown_by s n t true = refl
   shown_by s n t false = refl
 
-  cut-call : (d : Device) (a b : List ℕ) → Ready d → length a < missing (receiver_of d) a
+  cut_call : (d : Device) (a b : List ℕ) → Ready d → length a < missing (receiver_of d) a
       → serves out d (a ++ b) ≡ shifted (length a) (serves out (device_after d a) b)
-  cut-call d a b k h =
+  cut_call d a b k h =
       let t : Received = receiving (device_after d a) b in
       ap shown (not_refused d (a ++ b) out k.rule l)
       ∙ ap (λ (t : Received). shown (ended d.states t out)) (cut after_cmd4 (receiver_of d) a b k.header h)
       ∙ shown_by d.states (length a) t t.complete
       ∙ ap (λ (r : After). shifted (length a) (shown r)) (sym (not_refused (device_after d a) b out (ready_waiting d a k h).rule l))
 
-  behind-call : (d : Device) (a b : List ℕ) → Ready d → missing (receiver_of d) a ≤ length a → serves out d (a ++ b) ≡ serves out d a
-  behind-call d a b k h =
+  behind_call : (d : Device) (a b : List ℕ) → Ready d → missing (receiver_of d) a ≤ length a → serves out d (a ++ b) ≡ serves out d a
+  behind_call d a b k h =
       ap shown (not_refused d (a ++ b) out k.rule l)
       ∙ ap (λ (t : Received). shown (ended d.states t out)) (behind after_cmd4 (receiver_of d) a b k.header h)
       ∙ sym (ap shown (not_refused d a out k.rule l))
 
   no_bytes : (d : Device) → Ready d → serves out d [] ≡ record { taken = 0; gives = none; state = d }
   no_bytes d k =
-      ap shown (call-waits d [] out k l (omega (arith, missing_least (receiver_of d) [])))
+      ap shown (call_waits d [] out k l (omega (arith, missing_least (receiver_of d) [])))
       ∙ ap (λ (q : PacketReceiver). record { taken = 0; gives = none; state = device_of d.states q }) (with_nil after_cmd4 (receiver_of d))
 
-  count-answers : (d : Device) (a : List ℕ) → Ready d → missing (receiver_of d) a ≤ length a → (serves out d a).taken ≡ missing (receiver_of d) a
+  count_answers : (d : Device) (a : List ℕ) → Ready d → missing (receiver_of d) a ≤ length a → (serves out d a).taken ≡ missing (receiver_of d) a
   unfolding completed
-  count-answers d a k h = ap (λ (r : After). (shown r).taken) (call-answers d a out k l h)
+  count_answers d a k h = ap (λ (r : After). (shown r).taken) (call_answers d a out k l h)
 
-  pub endpoint-streams : Streaming (serves out) Ready
-  endpoint-streams =
+  pub endpoint_streams : Streaming (serves out) Ready
+  endpoint_streams =
       record {
         keeps = λ d b k. stays_in_rule d b out k l;
         empty = λ d k. no_bytes d k;
         cut = λ d a b k g.
-            let h = none-waits d a k g in
-            cut-call d a b k h ∙ ap (λ (x : Device). shifted (length a) (serves out x b)) (sym (ap (λ (r : After). r.device) (call-waits d a out k l h)));
-        behind = λ d a b e k g. behind-call d a b k (some-answers d a e k g);
-        least = λ d a e k g. omega (arith, missing_least (receiver_of d) a, count-answers d a k (some-answers d a e k g));
-        most = λ d a e k g. omega (arith, some-answers d a e k g, count-answers d a k (some-answers d a e k g));
+            let h = none_waits d a k g in
+            cut_call d a b k h ∙ ap (λ (x : Device). shifted (length a) (serves out x b)) (sym (ap (λ (r : After). r.device) (call_waits d a out k l h)));
+        behind = λ d a b e k g. behind_call d a b k (some_answers d a e k g);
+        least = λ d a e k g. omega (arith, missing_least (receiver_of d) a, count_answers d a k (some_answers d a e k g));
+        most = λ d a e k g. omega (arith, some_answers d a e k g, count_answers d a k (some_answers d a e k g));
       }
 
 -- What a call shows does not depend on what its output holds.
@@ -227,7 +227,7 @@ same_ended s t out other = go t.complete
 pub any_output : AnyOutput serves Ready 64
 any_output =
     record {
-      streams = endpoint-streams;
+      streams = endpoint_streams;
       same = λ out other d b l m k.
           ap shown (not_refused d b out k.rule l)
           ∙ same_ended d.states (receiving d b) out other

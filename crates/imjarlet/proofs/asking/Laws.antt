@@ -50,13 +50,13 @@ carry_says c j out =
 -- settings that are stored exactly where the judgement was carried out are those that the call leaves
 pub stored_settings : (c : Controller) (j : JudgementRecord) (out : List ℕ) {s : Settings} {stored : Bool}
     → let r = carry_call c j out in s ≡ r.controller.settings → stored ≡ is_written r.answer → cond stored s c.settings ≡ s
-stored_settings c j out e f = rw (f, e) (refused-keeps c j out)
+stored_settings c j out e f = rw (f, e) (refused_keeps c j out)
   where
     Keeps : Controller → Carrying → Type 0
     Keeps c r = cond (is_written r.answer) r.controller.settings c.settings ≡ r.controller.settings
 
-    refused-keeps : (c : Controller) (j : JudgementRecord) (out : List ℕ) → Keeps c (carry_call c j out)
-    refused-keeps c j out =
+    refused_keeps : (c : Controller) (j : JudgementRecord) (out : List ℕ) → Keeps c (carry_call c j out)
+    refused_keeps c j out =
         unfold carry_call in
         cond_cases (Keeps c) (ltb (length out) 64) (λ _. refl)
         (λ _. cond_cases (Keeps c) (in_rule c)

@@ -66,22 +66,22 @@ running_append k received running (x ∷ a) b =
 
 -- What `running_sum` puts together from the bytes that are covered.
 module _ (k received running : ℕ) (b : List ℕ) where
-  pub running-stays : length b ≤ k - received → running ≡ running_with k received running b
-  running-stays l = sym (running_early k received running b l)
+  pub running_stays : length b ≤ k - received → running ≡ running_with k received running b
+  running_stays l = sym (running_early k received running b l)
 
-  some-plus : (before stays : ℕ) (d : List ℕ) → 0 < length d → (before + sum d) % 256 ≡ plus before stays d
-  some-plus before stays [] h = absurd (omega arith)
-  some-plus before stays (x ∷ d) h = refl
+  some_plus : (before stays : ℕ) (d : List ℕ) → 0 < length d → (before + sum d) % 256 ≡ plus before stays d
+  some_plus before stays [] h = absurd (omega arith)
+  some_plus before stays (x ∷ d) h = refl
 
-  pub running-anew : k - received < length b → received ≤ k → {d : List ℕ} → d ≡ drop (k - received) b → (0 + sum d) % 256 ≡ running_with k received running b
+  pub running_anew : k - received < length b → received ≤ k → {d : List ℕ} → d ≡ drop (k - received) b → (0 + sum d) % 256 ≡ running_with k received running b
   unfolding running_with
-  running-anew l h e = rw (e, le-leb received k h) (some-plus 0 running (drop (k - received) b) (simp length-drop (omega arith)))
+  running_anew l h e = rw (e, le-leb received k h) (some_plus 0 running (drop (k - received) b) (simp length-drop (omega arith)))
 
-  pub running-on : 0 < length b → k < received → (running + sum b) % 256 ≡ running_with k received running b
+  pub running_on : 0 < length b → k < received → (running + sum b) % 256 ≡ running_with k received running b
   unfolding running_with
-  running-on n h =
+  running_on n h =
       let z : k - received ≡ 0 = omega arith in
-      rw (lt-leb received k h, z) (some-plus running running b n)
+      rw (lt-leb received k h, z) (some_plus running running b n)
 
 -- a receiver as the code has it: its header is six bytes, its sum is a byte
 pub record Made (r : Receiver) : Type 0 where
@@ -292,18 +292,18 @@ completed_whole k r p z f e =
 
 -- From between two packets: a packet and anything after it. The checksum covers the length at least.
 module _ (k : ℕ) (r : Receiver) (z : Between r) where
-  missing-whole : (p : List ℕ) → IsPacket p → missing r p ≡ length p
-  missing-whole p i = missing_boundary r p z (omega (arith, i.least)) ∙ i.exact
+  missing_whole : (p : List ℕ) → IsPacket p → missing r p ≡ length p
+  missing_whole p i = missing_boundary r p z (omega (arith, i.least)) ∙ i.exact
 
-  pub whole-packet : (p : List ℕ) → k < 6 → IsPacket p → receiving k r p ≡ one k r p
+  pub whole_packet : (p : List ℕ) → k < 6 → IsPacket p → receiving k r p ≡ one k r p
   unfolding size
-  whole-packet p f i =
-      completes k r p (omega (arith, missing-whole p i))
+  whole_packet p f i =
+      completes k r p (omega (arith, missing_whole p i))
       ∙ ap (completed k r p) (missing_boundary r p z (omega (arith, i.least)))
       ∙ completed_whole k r p z f i.exact
 
   pub first_of : (p b : List ℕ) → k < 6 → IsPacket p → receiving k r (p ++ b) ≡ one k r p
-  first_of p b f i = behind k r p b z.header (omega (arith, missing-whole p i)) ∙ whole-packet p f i
+  first_of p b f i = behind k r p b z.header (omega (arith, missing_whole p i)) ∙ whole_packet p f i
 
   -- too few bytes for a packet are all taken, and complete nothing
   pub too_few : (b : List ℕ) → has_packet b ≡ false → receiving k r b ≡ waiting k r b

@@ -28,30 +28,30 @@ module _
     (en : n ≡ min m (length b))
     (es : s ≡ running_with k r.received r.running (take n b))
     (ed : d ≡ sets r.hold (r.received - 6) (drop (6 - r.received) (take n b))) where
-  missing-is : missing r b ≡ m + 1
+  missing_is : missing r b ≡ m + 1
   unfolding missing
-  missing-is = rw (← eh) (omega (arith, em))
+  missing_is = rw (← eh) (omega (arith, em))
 
-  pub receive-waits : length b ≤ m
+  pub receive_waits : length b ≤ m
       → received_of (record { taken = n; complete = false; right = false; sum = s; received = r.received + n }) h d ≡ receiving k r b
   unfolding waiting with
-  receive-waits l =
+  receive_waits l =
       let e : n ≡ length b = omega (arith, en) in
       let t : take n b ≡ b = take_all n b (omega arith) in
-      rw (waits k r b (omega (arith, missing-is)), eh, es, ed, t, e)
+      rw (waits k r b (omega (arith, missing_is)), eh, es, ed, t, e)
 
   -- the header has all its bytes before the checksum
-  header-whole : m < length b → sets r.header r.received (take m b) ≡ h
-  header-whole l =
+  header_whole : m < length b → sets r.header r.received (take m b) ≡ h
+  header_whole l =
       sym
       (eh
       ∙ ap (sets r.header r.received) (sym (take-append-drop m b))
       ∙ header_stays r (take m b) (drop m b) six (omega (arith, em, length-take-le m b (omega arith))))
 
-  pub receive-completes : m < length b
+  pub receive_completes : m < length b
       → received_of (record { taken = m + 1; complete = true; right = eqb (get_or b m 0) s; sum = 0; received = 0 }) h d ≡ receiving k r b
   unfolding completed with
-  receive-completes l =
+  receive_completes l =
       let e : n ≡ m = omega (arith, en) in
       let f : m + 1 - 1 ≡ m = omega arith in
-      rw (completes k r b (omega (arith, missing-is)), missing-is, f, header-whole l, es, ed, e)
+      rw (completes k r b (omega (arith, missing_is)), missing_is, f, header_whole l, es, ed, e)

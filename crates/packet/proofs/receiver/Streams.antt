@@ -7,7 +7,7 @@ use Rattle.packet.specs.Calls.{Call, Served, and_then, calls_on, served_one, ser
 use Rattle.packet.proofs.Cases.{lt_cases}
 use Rattle.packet.proofs.stream.Laws.{IsPacket, packets_cons, rest_cons, packets_none, rest_none, packet_induction}
 use Rattle.packet.proofs.receiver.Laws.{Made, made_with, made_between, with_nil, missing_least, cut, behind, waits, completes, Between, between_packet, after_packet, right_from, first_of, too_few}
-use Rattle.packet.proofs.Calls.{Streaming, shifted, in_pieces, same-calls}
+use Rattle.packet.proofs.Calls.{Streaming, shifted, in_pieces, same_calls}
 
 -- what a complete packet gives: the receiver with its header and payload, and whether its checksum was right
 pub record Framed : Type 0 where
@@ -28,25 +28,25 @@ receives k r b = framed (receiving k r b)
 
 -- The two ends of a call.
 module _ (k : ℕ) (r : Receiver) (b : List ℕ) where
-  call-waits : length b < missing r b → receives k r b ≡ record { taken = length b; gives = none; state = with k r b }
+  call_waits : length b < missing r b → receives k r b ≡ record { taken = length b; gives = none; state = with k r b }
   unfolding waiting
-  call-waits l = ap framed (waits k r b l)
+  call_waits l = ap framed (waits k r b l)
 
-  call-completes : missing r b ≤ length b → receives k r b ≡ framed (completed k r b (missing r b))
-  call-completes l = ap framed (completes k r b l)
+  call_completes : missing r b ≤ length b → receives k r b ≡ framed (completed k r b (missing r b))
+  call_completes l = ap framed (completes k r b l)
 
-  none-waits : (receives k r b).gives ≡ none → length b < missing r b
+  none_waits : (receives k r b).gives ≡ none → length b < missing r b
   unfolding completed
-  none-waits g =
+  none_waits g =
       lt_cases (length b) (missing r b)
       (λ l. l)
-      (λ l. let h = sym (ap (λ (t : Call Receiver Framed). t.gives) (call-completes l)) ∙ g in
+      (λ l. let h = sym (ap (λ (t : Call Receiver Framed). t.gives) (call_completes l)) ∙ g in
       let z : ◌≡◌ {A = ℕ} 0 1 = cc in absurd (omega arith))
 
-  some-completes : (e : Framed) → (receives k r b).gives ≡ some e → missing r b ≤ length b
-  some-completes e g =
+  some_completes : (e : Framed) → (receives k r b).gives ≡ some e → missing r b ≤ length b
+  some_completes e g =
       lt_cases (length b) (missing r b)
-      (λ l. let h = sym (ap (λ (t : Call Receiver Framed). t.gives) (call-waits l)) ∙ g in
+      (λ l. let h = sym (ap (λ (t : Call Receiver Framed). t.gives) (call_waits l)) ∙ g in
       let z : ◌≡◌ {A = ℕ} 0 1 = cc in absurd (omega arith))
       (λ l. l)
 
@@ -54,26 +54,26 @@ keeps_made : (k : ℕ) (r : Receiver) (b : List ℕ) → Made r → Made (receiv
 unfolding completed
 keeps_made k r b m =
     lt_cases (length b) (missing r b)
-    (λ l. subst (λ (t : Call Receiver Framed). Made t.state) (sym (call-waits k r b l)) (made_with k r b m))
-    (λ l. subst (λ (t : Call Receiver Framed). Made t.state) (sym (call-completes k r b l))
+    (λ l. subst (λ (t : Call Receiver Framed). Made t.state) (sym (call_waits k r b l)) (made_with k r b m))
+    (λ l. subst (λ (t : Call Receiver Framed). Made t.state) (sym (call_completes k r b l))
     (made_between (with k r (take (missing r b - 1) b)) (made_with k r (take (missing r b - 1) b) m)))
 
 count_completes : (k : ℕ) (r : Receiver) (b : List ℕ) → missing r b ≤ length b → (receives k r b).taken ≡ missing r b
 unfolding completed
-count_completes k r b l = ap (λ (t : Call Receiver Framed). t.taken) (call-completes k r b l)
+count_completes k r b l = ap (λ (t : Call Receiver Framed). t.taken) (call_completes k r b l)
 
 pub receiver_streams : (k : ℕ) → Streaming (receives k) Made
 receiver_streams k =
     record {
       keeps = λ r b m. keeps_made k r b m;
-      empty = λ r m. call-waits k r [] (omega (arith, missing_least r [])) ∙ ap (λ (q : Receiver). record { taken = 0; gives = none; state = q }) (with_nil k r);
+      empty = λ r m. call_waits k r [] (omega (arith, missing_least r [])) ∙ ap (λ (q : Receiver). record { taken = 0; gives = none; state = q }) (with_nil k r);
       cut = λ r a b m g.
-          let l = none-waits k r a g in
+          let l = none_waits k r a g in
           ap framed (cut k r a b m.header l)
-          ∙ ap (λ (q : Receiver). shifted (length a) (receives k q b)) (sym (ap (λ (t : Call Receiver Framed). t.state) (call-waits k r a l)));
-      behind = λ r a b e m g. ap framed (behind k r a b m.header (some-completes k r a e g));
-      least = λ r a e m g. omega (arith, missing_least r a, count_completes k r a (some-completes k r a e g));
-      most = λ r a e m g. omega (arith, some-completes k r a e g, count_completes k r a (some-completes k r a e g));
+          ∙ ap (λ (q : Receiver). shifted (length a) (receives k q b)) (sym (ap (λ (t : Call Receiver Framed). t.state) (call_waits k r a l)));
+      behind = λ r a b e m g. ap framed (behind k r a b m.header (some_completes k r a e g));
+      least = λ r a e m g. omega (arith, missing_least r a, count_completes k r a (some_completes k r a e g));
+      most = λ r a e m g. omega (arith, some_completes k r a e g, count_completes k r a (some_completes k r a e g));
     }
 
 -- the receiver over the packets of a stream, one after the other
@@ -95,35 +95,35 @@ cut_anywhere k r bs m = in_pieces (receives k) Made (receiver_streams k) r bs m
 
 -- From between two packets; the checksum covers the length at least.
 module _ (k : ℕ) (f : k < 6) where
-  made-packet : (r : Receiver) (p : List ℕ) → Made r → Between r → IsPacket p → Made (after_packet r p)
-  made-packet r p m z i = subst (λ (t : Received). Made t.receiver) (first_of k r z p [] f i) (keeps_made k r (p ++ []) m)
+  made_packet : (r : Receiver) (p : List ℕ) → Made r → Between r → IsPacket p → Made (after_packet r p)
+  made_packet r p m z i = subst (λ (t : Received). Made t.receiver) (first_of k r z p [] f i) (keeps_made k r (p ++ []) m)
 
-  -- the claim of `whole-stream` for one stream
+  -- the claim of `whole_stream` for one stream
   abbrev Whole : List ℕ → Type 0
   Whole b = (r : Receiver) → Made r → Between r → served_one (receives k) r b ≡ framing k r b
 
-  whole-none : (b : List ℕ) → has_packet b ≡ false → Whole b
+  whole_none : (b : List ℕ) → has_packet b ≡ false → Whole b
   unfolding served_one calls_on over waiting
-  whole-none b h r m z =
+  whole_none b h r m z =
       ap (λ (t : Call Receiver Framed). and_then t.gives t.state (calls_on (receives k) (length b) (receives k r b).state (drop (receives k r b).taken b)))
       (ap framed (too_few k r z b h))
       ∙ rw (packets_none b h, rest_none b h)
 
-  whole-more : (p b : List ℕ) → IsPacket p → Whole b → Whole (p ++ b)
+  whole_more : (p b : List ℕ) → IsPacket p → Whole b → Whole (p ++ b)
   unfolding served_one calls_on over
-  whole-more p b i ih r m z =
+  whole_more p b i ih r m z =
       let q : Receiver = after_packet r p in
-      let mq : Made (after_packet r p) = made-packet r p m z i in
+      let mq : Made (after_packet r p) = made_packet r p m z i in
       let n : length (p ++ b) ≡ length p + length b = length-append p b in
       ap (λ (t : Call Receiver Framed). and_then t.gives t.state (calls_on (receives k) (length (p ++ b)) t.state (drop t.taken (p ++ b))))
       (ap framed (first_of k r z p b f i))
       ∙ ap (λ (x : Served Receiver Framed). record { given = record { right = right_from k p; receiver = q } ∷ x.given; state = x.state })
       (ap (calls_on (receives k) (length (p ++ b)) q) (drop_at p b (length p) refl)
-      ∙ same-calls (receives k) Made (receiver_streams k) (length (p ++ b)) (suc (length b)) q b mq (omega arith) (omega arith)
+      ∙ same_calls (receives k) Made (receiver_streams k) (length (p ++ b)) (suc (length b)) q b mq (omega arith) (omega arith)
       ∙ ih q mq (between_packet r p i))
       ∙ rw (packets_cons p b i, rest_cons p b i)
 
   -- The calls complete the packets of the bytes, each with its header, its payload in the hold and the judgement of its checksum,
   -- and have then received what is left.
-  pub whole-stream : (b : List ℕ) → Whole b
-  whole-stream = packet_induction Whole whole-none whole-more
+  pub whole_stream : (b : List ℕ) → Whole b
+  whole_stream = packet_induction Whole whole_none whole_more

@@ -186,15 +186,15 @@ module _ (b : List ℕ) (before : List (List ℕ)) (p : List ℕ) (behind : List
       ∙ simp append_assoc
 
   -- the bytes from its place on begin with it
-  pub packet-there : take (length p) (drop (bytes_in before) b) ≡ p
-  packet-there =
+  pub packet_there : take (length p) (drop (bytes_in before) b) ≡ p
+  packet_there =
       let more = p ++ (joined behind ++ rest b) in
       ap (λ (x : List ℕ). take (length p) (drop (bytes_in before) x)) apart
       ∙ ap (take (length p)) (drop_at (joined before) more (bytes_in before) (joined_length before))
       ∙ take_at p (joined behind ++ rest b) (length p) refl
 
-  pub packet-within : bytes_in before < length b
-  packet-within =
+  pub packet_within : bytes_in before < length b
+  packet_within =
       let n = filled_at before p behind (subst Filled c (filled b)) in
       let more = p ++ (joined behind ++ rest b) in
       omega (arith, n, ap length apart, length-append (joined before) more, length-append p (joined behind ++ rest b), joined_length before)
@@ -267,34 +267,34 @@ size_most b h = omega (arith, byte_get b 4 h, byte_get b 5 h)
 
 -- The packet at a place of a buffer, n being what its length field says.
 module _ (b : List ℕ) (at : ℕ) where
-  pub none-begun : length b < at + 7 → Nothing ≡ next_in (drop at b)
+  pub none_begun : length b < at + 7 → Nothing ≡ next_in (drop at b)
   unfolding next_in
-  none-begun l = rw (no_header (drop at b) (simp length-drop (omega arith)))
+  none_begun l = rw (no_header (drop at b) (simp length-drop (omega arith)))
 
-  size-at : {n : ℕ} → n ≡ get_or b (at + 4) 0 + 256 * get_or b (at + 5) 0 → size (drop at b) ≡ 7 + n
+  size_at : {n : ℕ} → n ≡ get_or b (at + 4) 0 + 256 * get_or b (at + 5) 0 → size (drop at b) ≡ 7 + n
   unfolding size
-  size-at e = rw (get_or-drop at b 4 0, get_or-drop at b 5 0) (omega arith)
+  size_at e = rw (get_or-drop at b 4 0, get_or-drop at b 5 0) (omega arith)
 
-  pub none-ended : {n : ℕ} → n ≡ get_or b (at + 4) 0 + 256 * get_or b (at + 5) 0 → length b < at + (7 + n) → Nothing ≡ next_in (drop at b)
+  pub none_ended : {n : ℕ} → n ≡ get_or b (at + 4) 0 + 256 * get_or b (at + 5) 0 → length b < at + (7 + n) → Nothing ≡ next_in (drop at b)
   unfolding next_in
-  none-ended e l = rw (no_end (drop at b) (simp length-drop (omega (arith, size-at e))))
+  none_ended e l = rw (no_end (drop at b) (simp length-drop (omega (arith, size_at e))))
 
   -- the checksum of the packet p that stands there
-  right-at : {p : List ℕ} → has_packet (drop at b) ≡ true → p ≡ take (size (drop at b)) (drop at b)
+  right_at : {p : List ℕ} → has_packet (drop at b) ≡ true → p ≡ take (size (drop at b)) (drop at b)
       → eqb (get_or p (length p - 1) 0) (checksum (take (length p - 1) p)) ≡ right_sum (drop at b)
   unfolding right_sum size
-  right-at {p} h e =
+  right_at {p} h e =
       let d : List ℕ = drop at b in
       let n : ℕ = 6 + payload_length d in
       let l : length p ≡ 7 + payload_length d = ap length e ∙ length-take-le (7 + payload_length d) d (size_within d h) in
       let m : length p - 1 ≡ n = omega arith in
       rw (m, e, get_or-take (7 + payload_length d) d n 0 (omega arith), take-take n (7 + payload_length d) d (omega arith))
 
-  pub next-at : {n : ℕ} {right : Bool} {p : List ℕ} → n ≡ get_or b (at + 4) 0 + 256 * get_or b (at + 5) 0 → at + (7 + n) ≤ length b
+  pub next_at : {n : ℕ} {right : Bool} {p : List ℕ} → n ≡ get_or b (at + 4) 0 + 256 * get_or b (at + 5) 0 → at + (7 + n) ≤ length b
       → p ≡ take (7 + n) (drop at b)
       → right ≡ eqb (get_or p (length p - 1) 0) (checksum (take (length p - 1) p)) → Packet (7 + n) right ≡ next_in (drop at b)
   unfolding next_in
-  next-at {n} {right} {p} e l f g =
-      let h : has_packet (drop at b) ≡ true = has_packet_lem (drop at b) (simp length-drop (omega arith)) (simp length-drop (omega (arith, size-at e))) in
-      let q : p ≡ take (size (drop at b)) (drop at b) = f ∙ ap (λ (i : ℕ). take i (drop at b)) (sym (size-at e)) in
-      rw (h, size-at e, g, right-at h q)
+  next_at {n} {right} {p} e l f g =
+      let h : has_packet (drop at b) ≡ true = has_packet_lem (drop at b) (simp length-drop (omega arith)) (simp length-drop (omega (arith, size_at e))) in
+      let q : p ≡ take (size (drop at b)) (drop at b) = f ∙ ap (λ (i : ℕ). take i (drop at b)) (sym (size_at e)) in
+      rw (h, size_at e, g, right_at h q)

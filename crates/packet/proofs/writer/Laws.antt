@@ -72,25 +72,25 @@ module _ (type cmd1 cmd2 flags : ℕ) (d : List ℕ) (h : length d ≤ 65535) wh
   unfolding bytes_of
   length_front = omega arith
 
-  pub length-written : payload_length (packet_of type cmd1 cmd2 flags d) ≡ length d
+  pub length_written : payload_length (packet_of type cmd1 cmd2 flags d) ≡ length d
   unfolding packet_of sealed bytes_of
-  length-written = omega arith
+  length_written = omega arith
 
-  pub size-written : length (packet_of type cmd1 cmd2 flags d) ≡ length d + 7
+  pub size_written : length (packet_of type cmd1 cmd2 flags d) ≡ length d + 7
   unfolding packet_of sealed bytes_of
-  size-written = rw (length-append d (checksum front ∷ [])) (omega arith)
+  size_written = rw (length-append d (checksum front ∷ [])) (omega arith)
 
-  pub packet-written : IsPacket (packet_of type cmd1 cmd2 flags d)
+  pub packet_written : IsPacket (packet_of type cmd1 cmd2 flags d)
   unfolding size
-  packet-written = record { least = omega (arith, size-written); exact = omega (arith, size-written, length-written) }
+  packet_written = record { least = omega (arith, size_written); exact = omega (arith, size_written, length_written) }
 
-  pub payload-written : payload (packet_of type cmd1 cmd2 flags d) ≡ d
+  pub payload_written : payload (packet_of type cmd1 cmd2 flags d) ≡ d
   unfolding payload
-  payload-written = rw length-written (unfold packet_of sealed bytes_of in take_at d (checksum front ∷ []) (length d) refl)
+  payload_written = rw length_written (unfold packet_of sealed bytes_of in take_at d (checksum front ∷ []) (length d) refl)
 
-  pub sum-written : right_sum (packet_of type cmd1 cmd2 flags d) ≡ true
+  pub sum_written : right_sum (packet_of type cmd1 cmd2 flags d) ≡ true
   unfolding right_sum
-  sum-written = rw length-written whole-front
+  sum_written = rw length_written whole_front
     where
       last : get_or (packet_of type cmd1 cmd2 flags d) (6 + length d) 0 ≡ checksum front
       last = unfold packet_of sealed in get_or_at front (checksum front) [] 0 (6 + length d) length_front
@@ -98,8 +98,8 @@ module _ (type cmd1 cmd2 flags : ℕ) (d : List ℕ) (h : length d ≤ 65535) wh
       before : take (6 + length d) (packet_of type cmd1 cmd2 flags d) ≡ front
       before = unfold packet_of sealed in take_at front (checksum front ∷ []) (6 + length d) length_front
 
-      whole-front : eqb (get_or (packet_of type cmd1 cmd2 flags d) (6 + length d) 0) (checksum (take (6 + length d) (packet_of type cmd1 cmd2 flags d))) ≡ true
-      whole-front = eq-eqb _ _ (last ∙ ap checksum (sym before))
+      whole_front : eqb (get_or (packet_of type cmd1 cmd2 flags d) (6 + length d) 0) (checksum (take (6 + length d) (packet_of type cmd1 cmd2 flags d))) ≡ true
+      whole_front = eq-eqb _ _ (last ∙ ap checksum (sym before))
 
 tail_split : (q : List ℕ) (m : ℕ) → length q ≡ m + 1 → q ≡ take m q ++ (get_or q m 0 ∷ [])
 tail_split q m e = sym (take_all (suc m) q (omega arith)) ∙ take-suc q m 0 (omega arith)
@@ -125,7 +125,7 @@ packet_remade (a0 ∷ a1 ∷ []) b i r = absurd (omega (arith, i.least))
 packet_remade (a0 ∷ a1 ∷ a2 ∷ []) b i r = absurd (omega (arith, i.least))
 packet_remade (a0 ∷ a1 ∷ a2 ∷ a3 ∷ []) b i r = absurd (omega (arith, i.least))
 packet_remade (a0 ∷ a1 ∷ a2 ∷ a3 ∷ a4 ∷ []) b i r = absurd (omega (arith, i.least))
-packet_remade (a0 ∷ a1 ∷ a2 ∷ a3 ∷ a4 ∷ a5 ∷ q) b i r = remade a0 a1 a2 a3 a4 a5 q b.1.1.1.1.0 b.1.1.1.1.1.0 (exact-size i) r
+packet_remade (a0 ∷ a1 ∷ a2 ∷ a3 ∷ a4 ∷ a5 ∷ q) b i r = remade a0 a1 a2 a3 a4 a5 q b.1.1.1.1.0 b.1.1.1.1.1.0 (exact_size i) r
   where
-    exact-size : IsPacket (a0 ∷ a1 ∷ a2 ∷ a3 ∷ a4 ∷ a5 ∷ q) → length q ≡ a4 + 256 * a5 + 1
-    exact-size i = unfold size in omega (arith, i.exact)
+    exact_size : IsPacket (a0 ∷ a1 ∷ a2 ∷ a3 ∷ a4 ∷ a5 ∷ q) → length q ≡ a4 + 256 * a5 + 1
+    exact_size i = unfold size in omega (arith, i.exact)

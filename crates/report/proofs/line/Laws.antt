@@ -60,8 +60,8 @@ in_front bytes i x h =
 -- so many digits of n are those of what is left, and those that stand after a place
 module _ (n left at : ℕ) (bytes : List ℕ) (e : decimal n ≡ decimal left ++ drop (at + 1) bytes) (h : at < length bytes) where
   -- there is room for one more
-  pub digits-room : length (decimal n) ≤ length bytes → 10 ≤ left → 1 ≤ at
-  digits-room f l =
+  pub digits_room : length (decimal n) ≤ length bytes → 10 ≤ left → 1 ≤ at
+  digits_room f l =
       omega (arith, ap length e, length-append (decimal left) (drop (at + 1) bytes), length-drop (at + 1) bytes, decimal_two left l)
 
   pub digits_more : 10 ≤ left → 1 ≤ at → decimal n ≡ decimal (left / 10) ++ drop (at - 1 + 1) (set bytes at (digit (left % 10)))
@@ -92,18 +92,18 @@ module _ (first second : List ℕ) (m n : ℕ) where
   abbrev all : List ℕ
   all = (front ++ (second ++ decimal n)) ++ text_of "\n"
 
-  sentence-joined : all ≡ sentence first m second n
+  sentence_joined : all ≡ sentence first m second n
   unfolding sentence
-  sentence-joined = simp append_assoc
+  sentence_joined = simp append_assoc
 
-  pub put-sentence : (out : List ℕ) {end : ℕ} {last : List ℕ} → length first + length second ≤ 22 → length (decimal m) ≤ 20 → length (decimal n) ≤ 20 → 64 ≤ length out
+  pub put_sentence : (out : List ℕ) {end : ℕ} {last : List ℕ} → length first + length second ≤ 22 → length (decimal m) ≤ 20 → length (decimal n) ≤ 20 → 64 ≤ length out
       → (end ≡ 0 + length all) × (last ≡ sets out 0 all)
       → (end ≡ length (sentence first m second n)) × (last ≡ written (sentence first m second n) out)
   unfolding written text_of
-  put-sentence out w k l room p =
+  put_sentence out w k l room p =
       let size : length all ≤ 63 = simp length-append (omega arith) in (
-        p.0 ∙ rw sentence-joined (omega arith),
-        p.1 ∙ sets_front all out (omega arith) ∙ rw sentence-joined,
+        p.0 ∙ rw sentence_joined (omega arith),
+        p.1 ∙ sets_front all out (omega arith) ∙ rw sentence_joined,
       )
 
 -- what was written at the start of a buffer is as long as the buffer at most

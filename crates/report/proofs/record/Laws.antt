@@ -43,24 +43,24 @@ fail_some o n p m {k} e = rw e
 
 -- The four ends: 11, 12, 13, and the record.
 module _ (kind at : ℕ) (b : List ℕ) where
-  pub short-body : length b < 4 + value_of (take 2 b) → reading kind at b ≡ Bad 11 at
+  pub short_body : length b < 4 + value_of (take 2 b) → reading kind at b ≡ Bad 11 at
   unfolding reading need ◌>>=◌
-  short-body h = rw (lt-leb (4 + value_of (take 2 b)) (length b) h, and-false (leb 4 (length b)))
+  short_body h = rw (lt-leb (4 + value_of (take 2 b)) (length b) h, and-false (leb 4 (length b)))
 
   module _ (l : 4 + value_of (take 2 b) ≤ length b) where
-    pub other-kind : (value_of (take 2 (drop 2 b)) ≡ kind → ⊥) → reading kind at b ≡ Bad 12 at
+    pub other_kind : (value_of (take 2 (drop 2 b)) ≡ kind → ⊥) → reading kind at b ≡ Bad 12 at
     unfolding reading need ◌>>=◌
-    other-kind k = rw (le-leb 4 (length b) (omega arith), le-leb (4 + value_of (take 2 b)) (length b) l, ne_eqb (value_of (take 2 (drop 2 b))) kind k)
+    other_kind k = rw (le-leb 4 (length b) (omega arith), le-leb (4 + value_of (take 2 b)) (length b) l, ne_eqb (value_of (take 2 (drop 2 b))) kind k)
 
     module _ (k : value_of (take 2 (drop 2 b)) ≡ kind) where
       pub wrong_size : sized kind (value_of (take 2 b)) ≡ false → reading kind at b ≡ Bad 13 at
       unfolding reading need ◌>>=◌
       wrong_size s = rw (le-leb 4 (length b) (omega arith), le-leb (4 + value_of (take 2 b)) (length b) l, eq-eqb (value_of (take 2 (drop 2 b))) kind k, s)
 
-      pub whole-record : sized kind (value_of (take 2 b)) ≡ true
+      pub whole_record : sized kind (value_of (take 2 b)) ≡ true
           → reading kind at b ≡ Good (record { body = take (value_of (take 2 b)) (drop 4 b); left = drop (4 + value_of (take 2 b)) b })
       unfolding reading need ◌>>=◌
-      whole-record s = rw (le-leb 4 (length b) (omega arith), le-leb (4 + value_of (take 2 b)) (length b) l, eq-eqb (value_of (take 2 (drop 2 b))) kind k, s)
+      whole_record s = rw (le-leb 4 (length b) (omega arith), le-leb (4 + value_of (take 2 b)) (length b) l, eq-eqb (value_of (take 2 (drop 2 b))) kind k, s)
 
 -- Parts of a report.
 pub take_parts : (n m : ℕ) (l : List ℕ) → take (n + m) l ≡ take n l ++ take m (drop n l)
@@ -73,11 +73,11 @@ module _ (n at : ℕ) (r : List ℕ) (h : at + n ≤ length r) where
   pub part_length : length (take n (drop at r)) ≡ n
   part_length = length-take-le n (drop at r) (omega (arith, length-drop at r))
 
-  pub part-front : (m : ℕ) → take n (take (n + m) (drop at r)) ≡ take n (drop at r)
-  part-front m = ap (take n) (take_parts n m (drop at r)) ∙ take_at (take n (drop at r)) (take m (drop n (drop at r))) n part_length
+  pub part_front : (m : ℕ) → take n (take (n + m) (drop at r)) ≡ take n (drop at r)
+  part_front m = ap (take n) (take_parts n m (drop at r)) ∙ take_at (take n (drop at r)) (take m (drop n (drop at r))) n part_length
 
-  pub part-back : (m : ℕ) → drop n (take (n + m) (drop at r)) ≡ take m (drop (at + n) r)
-  part-back m =
+  pub part_back : (m : ℕ) → drop n (take (n + m) (drop at r)) ≡ take m (drop (at + n) r)
+  part_back m =
       ap (drop n) (take_parts n m (drop at r))
       ∙ drop_at (take n (drop at r)) (take m (drop n (drop at r))) n part_length
       ∙ ap (take m) (drop-drop n at r)
@@ -101,33 +101,33 @@ module _ (r : List ℕ) (kind at : ℕ) (fits : at ≤ length r) where
   told : {o : Outcome} {n : ℕ} → o ≡ Refused n at → reading kind at (drop at r) ≡ Bad n at → RecordAt r kind at o
   told e h = subst (RecordAt r kind at) (sym e) h
 
-  pub told-header : {o : Outcome} → o ≡ Refused 11 at → length r < at + 4 → RecordAt r kind at o
-  told-header e h = told e (short-body kind at (drop at r) (omega (arith, length-drop at r)))
+  pub told_header : {o : Outcome} → o ≡ Refused 11 at → length r < at + 4 → RecordAt r kind at o
+  told_header e h = told e (short_body kind at (drop at r) (omega (arith, length-drop at r)))
 
   module _ {n k : ℕ} (is : n ≡ value_of (take 2 (drop at r))) (of : k ≡ value_of (take 2 (drop (at + 2) r))) where
-    pub told-body : {o : Outcome} → o ≡ Refused 11 at → length r < at + 4 + n → RecordAt r kind at o
-    told-body e h = told e (short-body kind at (drop at r) (omega (arith, length-drop at r)))
+    pub told_body : {o : Outcome} → o ≡ Refused 11 at → length r < at + 4 + n → RecordAt r kind at o
+    told_body e h = told e (short_body kind at (drop at r) (omega (arith, length-drop at r)))
 
-    kind-is : value_of (take 2 (drop 2 (drop at r))) ≡ k
-    kind-is = ap (λ (x : List ℕ). value_of (take 2 x)) (drop-drop 2 at r) ∙ sym of
+    kind_is : value_of (take 2 (drop 2 (drop at r))) ≡ k
+    kind_is = ap (λ (x : List ℕ). value_of (take 2 x)) (drop-drop 2 at r) ∙ sym of
 
     module _ (l : at + 4 + n ≤ length r) where
       whole : 4 + value_of (take 2 (drop at r)) ≤ length (drop at r)
       whole = omega (arith, length-drop at r)
 
-      pub told-kind : {o : Outcome} → o ≡ Refused 12 at → (k ≡ kind → ⊥) → RecordAt r kind at o
-      told-kind e h = told e (other-kind kind at (drop at r) whole (λ x. h (sym kind-is ∙ x)))
+      pub told_kind : {o : Outcome} → o ≡ Refused 12 at → (k ≡ kind → ⊥) → RecordAt r kind at o
+      told_kind e h = told e (other_kind kind at (drop at r) whole (λ x. h (sym kind_is ∙ x)))
 
       module _ (h : k ≡ kind) where
-        pub told-size : {o : Outcome} → o ≡ Refused 13 at → sized kind n ≡ false → RecordAt r kind at o
-        told-size e s = told e (wrong_size kind at (drop at r) whole (kind-is ∙ h) (ap (sized kind) (sym is) ∙ s))
+        pub told_size : {o : Outcome} → o ≡ Refused 13 at → sized kind n ≡ false → RecordAt r kind at o
+        told_size e s = told e (wrong_size kind at (drop at r) whole (kind_is ∙ h) (ap (sized kind) (sym is) ∙ s))
 
-        pub told-record : sized kind n ≡ true → RecordIs r kind at n
-        told-record s =
+        pub told_record : sized kind n ≡ true → RecordIs r kind at n
+        told_record s =
             let far : at + (4 + n) ≡ at + 4 + n = omega arith in
             record {
               reads =
-                  whole-record kind at (drop at r) whole (kind-is ∙ h) (ap (sized kind) (sym is) ∙ s)
+                  whole_record kind at (drop at r) whole (kind_is ∙ h) (ap (sized kind) (sym is) ∙ s)
                   ∙ rw (sym is, drop-drop 4 at r, drop-drop (4 + n) at r, far);
               within = l;
               right = s;
@@ -142,22 +142,22 @@ missed r kind at e h = subst (RecordAt r kind at) e h
 
 -- its size
 module _ {r : List ℕ} {at n : ℕ} where
-  pub size-head : RecordIs r 1 at n → n ≡ 4
-  size-head f = eqb-true n 4 f.right
+  pub size_head : RecordIs r 1 at n → n ≡ 4
+  size_head f = eqb-true n 4 f.right
 
-  pub size-trial : RecordIs r 2 at n → 4 ≤ n
-  size-trial f = leb-true 4 n f.right
+  pub size_trial : RecordIs r 2 at n → 4 ≤ n
+  size_trial f = leb-true 4 n f.right
 
-  pub size-winner : RecordIs r 3 at n → n ≡ 2
-  size-winner f = eqb-true n 2 f.right
+  pub size_winner : RecordIs r 3 at n → n ≡ 2
+  size_winner f = eqb-true n 2 f.right
 
 -- its body, of which the front is a number and the back is what follows
 module _ {r : List ℕ} {kind at n : ℕ} (f : RecordIs r kind at n) where
-  pub body-long : length (take n (drop (at + 4) r)) ≡ n
-  body-long = part_length n (at + 4) r f.within
+  pub body_long : length (take n (drop (at + 4) r)) ≡ n
+  body_long = part_length n (at + 4) r f.within
 
-  pub body-parts : (w m : ℕ) → n ≡ w + m
+  pub body_parts : (w m : ℕ) → n ≡ w + m
       → (take w (take n (drop (at + 4) r)) ≡ take w (drop (at + 4) r)) × (drop w (take n (drop (at + 4) r)) ≡ take m (drop (at + 4 + w) r))
-  body-parts w m e =
+  body_parts w m e =
       let l : at + 4 + w ≤ length r = omega (arith, f.within) in
-      (rw e (part-front w (at + 4) r l m), rw e (part-back w (at + 4) r l m))
+      (rw e (part_front w (at + 4) r l m), rw e (part_back w (at + 4) r l m))

@@ -103,8 +103,8 @@ module _ (ts : List Trial) (t : Trial) where
       let q : length ts ≡ i = omega (arith, ltb-false i (length ts) e, length-append ts (t ∷ [])) in
       subst P q l
 
-  pub first-stays : {k score : ℕ} {e : Settings} → score ≤ t.score → First ts k score e → First (ts ++ (t ∷ [])) k score e
-  first-stays {k} {score} {e} l f =
+  pub first_stays : {k score : ℕ} {e : Settings} → score ≤ t.score → First ts k score e → First (ts ++ (t ∷ [])) k score e
+  first_stays {k} {score} {e} l f =
       let same = score_front ts (t ∷ []) k f.named in
       record {
         named = omega (arith, f.named, length-append ts (t ∷ []));
@@ -119,8 +119,8 @@ module _ (ts : List Trial) (t : Trial) where
         ends = f.ends ∙ sym (end_front factory ts (t ∷ []) k f.named);
       }
 
-  pub first-new : ((i : ℕ) → i < length ts → t.score < score_at ts i) → First (ts ++ (t ∷ [])) (length ts) t.score (play (end_all factory ts) t.bytes).settings
-  first-new f =
+  pub first_new : ((i : ℕ) → i < length ts → t.score < score_at ts i) → First (ts ++ (t ∷ [])) (length ts) t.score (play (end_all factory ts) t.bytes).settings
+  first_new f =
       record {
         named = omega (arith, length-append ts (t ∷ []));
         first =

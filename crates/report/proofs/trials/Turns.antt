@@ -19,8 +19,8 @@ use Rattle.command.proofs.PlayerLaws.{kept_play}
 use Rattle.report.specs.Record.{Out, Bad, Good, ◌>>=◌, reading}
 use Rattle.report.specs.Report.{Trial, Trials, read_trials, score_at}
 use Rattle.report.specs.Inner.{RecordIs, First, BestIs}
-use Rattle.report.proofs.record.Laws.{stop, size-trial, body-long, body-parts}
-use Rattle.report.proofs.trials.Laws.{end_all, end_all_lem, first-stays, first-new}
+use Rattle.report.proofs.record.Laws.{stop, size_trial, body_long, body_parts}
+use Rattle.report.proofs.trials.Laws.{end_all, end_all_lem, first_stays, first_new}
 
 -- some trials in front of those that are read after them
 abbrev pub onto : List Trial → Trials → Trials
@@ -71,13 +71,13 @@ module _ {r : List ℕ} {i at n k low score : ℕ} {last s e : Settings} (w : Wa
   played : s ≡ (play last bytes).settings
   played = plays ∙ ap (λ (x : Bool). cond x (play last bytes).settings last) w.ruled
 
-  trial-reads : (m : ℕ) → read_trials (suc m) at (drop at r) ≡ (read_trials m (at + 4 + n) (drop (at + 4 + n) r) >>= λ q. Good (onto (one ∷ []) q))
+  trial_reads : (m : ℕ) → read_trials (suc m) at (drop at r) ≡ (read_trials m (at + 4 + n) (drop (at + 4 + n) r) >>= λ q. Good (onto (one ∷ []) q))
   unfolding read_trials ◌>>=◌
-  trial-reads m =
-      let four = size-trial f in
+  trial_reads m =
+      let four = size_trial f in
       let eight : at + 4 + 4 ≡ at + 8 = omega arith in
-      let p = body-parts f 4 (at + 4 + n - (at + 8)) (omega arith) in
-      rw (f.reads, body-long f, p.0, p.1, eight, sym scores)
+      let p = body_parts f 4 (at + 4 + n - (at + 8)) (omega arith) in
+      rw (f.reads, body_long f, p.0, p.1, eight, sym scores)
 
   -- whichever is the best then
   more : {k' low' : ℕ} {e' : Settings} → First (w.list ++ (one ∷ [])) k' low' e' → Walked r (i + 1) (at + 4 + n) s k' low' e'
@@ -88,7 +88,7 @@ module _ {r : List ℕ} {i at n k low score : ℕ} {last s e : Settings} (w : Wa
             let p : i + 1 + m ≡ i + suc m = omega arith in
             ap (λ (x : ℕ). read_trials x 8 (drop 8 r)) p
             ∙ w.reads (suc m)
-            ∙ ap (λ (x : Out Trials). x >>= λ q. Good (onto w.list q)) (trial-reads m)
+            ∙ ap (λ (x : Out Trials). x >>= λ q. Good (onto w.list q)) (trial_reads m)
             ∙ onto_more w.list (one ∷ []) (read_trials m (at + 4 + n) (drop (at + 4 + n) r));
         count = omega (arith, length-append w.list (one ∷ []), w.count);
         within = f.within;
@@ -98,22 +98,22 @@ module _ {r : List ℕ} {i at n k low score : ℕ} {last s e : Settings} (w : Wa
       }
 
   -- the first trial, or one that scores below the best so far
-  pub walked-better : (eqb i 0 || ltb score low) ≡ true → Walked r (i + 1) (at + 4 + n) s i score s
-  walked-better h =
+  pub walked_better : (eqb i 0 || ltb score low) ≡ true → Walked r (i + 1) (at + 4 + n) s i score s
+  walked_better h =
       let below : (j : ℕ) → j < length w.list → score < score_at w.list j = λ j l.
       let b = w.best (omega arith) in
       let t : ltb score low ≡ true = rw (ne_eqb i 0 (omega (arith, w.count))) at h in
       omega (arith, ltb-true score low t, b.scored, b.first.lowest j l) in
-      let new = more (first-new w.list one below) in
+      let new = more (first_new w.list one below) in
       let ends : (play (end_all factory w.list) bytes).settings ≡ s = sym (played ∙ ap (λ (x : Settings). (play x bytes).settings) w.ended) in
       subst (λ (x : Settings). Walked r (i + 1) (at + 4 + n) s i score x) ends
       (subst (λ (x : ℕ). Walked r (i + 1) (at + 4 + n) s x score (play (end_all factory w.list) bytes).settings) w.count new)
 
   -- any other
-  pub walked-other : (eqb i 0 || ltb score low) ≡ false → Walked r (i + 1) (at + 4 + n) s k low e
-  walked-other h =
+  pub walked_other : (eqb i 0 || ltb score low) ≡ false → Walked r (i + 1) (at + 4 + n) s k low e
+  walked_other h =
       let some : i ≡ 0 → ⊥ = eqb-false i 0 (or_left (eqb i 0) (ltb score low) h) in
-      more (first-stays w.list one (ltb-false score low (or_right (eqb i 0) (ltb score low) h)) (w.best (omega (arith, w.count, some))))
+      more (first_stays w.list one (ltb-false score low (or_right (eqb i 0) (ltb score low) h)) (w.best (omega (arith, w.count, some))))
 
 -- A trial that is not there ends the reading.
 pub walked_missed : {r : List ℕ} {m i at k score n p : ℕ} {last e : Settings} → Walked r i at last k score e → i < m → reading 2 at (drop at r) ≡ Bad n p

@@ -15,7 +15,7 @@ use Rattle.command.specs.Player.{is_nil}
 use Rattle.report.specs.Record.{Out, Good, ◌>>=◌, ◌>>◌, need, sized, reading}
 use Rattle.report.specs.Report.{Trial, Report, read_trials, read_head, read_end, read_report}
 use Rattle.report.specs.Claim.{record_of, head_of, trial_of, trial_records, report_of, Scores}
-use Rattle.report.proofs.record.Laws.{run, pass, whole-record}
+use Rattle.report.proofs.record.Laws.{run, pass, whole_record}
 use Rattle.report.proofs.trials.Turns.{onto, onto_none, onto_more}
 
 -- How long a record is, the trials, and a report.
@@ -40,24 +40,24 @@ length_report ts k ship = simp (length-append, length_record, length_bytes) (ome
 
 -- Any record: its length and its kind are there.
 module _ (kind : ℕ) (body left : List ℕ) (k : kind < 65536) (n : length body < 65536) where
-  pub length-there : value_of (take 2 (record_of kind body ++ left)) ≡ length body
+  pub length_there : value_of (take 2 (record_of kind body ++ left)) ≡ length body
   unfolding record_of bytes_of
-  length-there = value_bytes 2 (length body) n
+  length_there = value_bytes 2 (length body) n
 
-  pub kind-there : value_of (take 2 (drop 2 (record_of kind body ++ left))) ≡ kind
+  pub kind_there : value_of (take 2 (drop 2 (record_of kind body ++ left))) ≡ kind
   unfolding record_of bytes_of
-  kind-there = value_bytes 2 kind k
+  kind_there = value_bytes 2 kind k
 
-  pub whole-there : 4 + value_of (take 2 (record_of kind body ++ left)) ≤ length (record_of kind body ++ left)
-  whole-there = omega (arith, length-there, length_before kind body left)
+  pub whole_there : 4 + value_of (take 2 (record_of kind body ++ left)) ≤ length (record_of kind body ++ left)
+  whole_there = omega (arith, length_there, length_before kind body left)
 
-  pub reading-record : (at : ℕ) → sized kind (length body) ≡ true → reading kind at (record_of kind body ++ left) ≡ Good (record { body = body; left = left })
-  reading-record at s =
-      whole-record kind at (record_of kind body ++ left) whole-there kind-there (ap (sized kind) length-there ∙ s)
-      ∙ rw (length-there, drop_at (record_of kind body) left (4 + length body) (length_record kind body), body-there, take_at body left (length body) refl)
+  pub reading_record : (at : ℕ) → sized kind (length body) ≡ true → reading kind at (record_of kind body ++ left) ≡ Good (record { body = body; left = left })
+  reading_record at s =
+      whole_record kind at (record_of kind body ++ left) whole_there kind_there (ap (sized kind) length_there ∙ s)
+      ∙ rw (length_there, drop_at (record_of kind body) left (4 + length body) (length_record kind body), body_there, take_at body left (length body) refl)
     where
-      body-there : drop 4 (record_of kind body ++ left) ≡ body ++ left
-      body-there = unfold record_of bytes_of in refl
+      body_there : drop 4 (record_of kind body ++ left) ≡ body ++ left
+      body_there = unfold record_of bytes_of in refl
 
 -- Kind 1, with any version and count.
 pub head_laid : (v n : ℕ) (left : List ℕ) → length (record_of 1 (bytes_of 2 v ++ bytes_of 2 n) ++ left) ≤ 60000
@@ -68,7 +68,7 @@ head_laid v n left l =
     let body = bytes_of 2 v ++ bytes_of 2 n in
     let four : length body ≡ 4 = length-append (bytes_of 2 v) (bytes_of 2 n) ∙ ap₂ ◌+◌ (length_bytes 2 v) (length_bytes 2 n) in
     pass _ 10 0 _ (le-leb (length (record_of 1 body ++ left)) 60000 l)
-    (run (reading 1 0 (record_of 1 body ++ left)) _ (reading-record 1 body left (omega arith) (omega arith) 0 (eq-eqb (length body) 4 four))
+    (run (reading 1 0 (record_of 1 body ++ left)) _ (reading_record 1 body left (omega arith) (omega arith) 0 (eq-eqb (length body) 4 four))
     (rw (take_at (bytes_of 2 v) (bytes_of 2 n) 2 (length_bytes 2 v), drop_at (bytes_of 2 v) (bytes_of 2 n) 2 (length_bytes 2 v))))
 
 -- kind 1 is read, and the trials are next
@@ -99,7 +99,7 @@ reading_prefix (t ∷ ts) m at left s n =
     let next : at + 4 + length body + length (trial_records ts) ≡ at + length (trial_of t ++ trial_records ts) = omega arith in
     ap (λ (k : ℕ). read_trials k at ((trial_of t ++ trial_records ts) ++ left)) (suc-add (length ts) m)
     ∙ run (reading 2 at ((trial_of t ++ trial_records ts) ++ left)) _
-    (ap (reading 2 at) (append_assoc (trial_of t) (trial_records ts) left) ∙ reading-record 2 body (trial_records ts ++ left) (omega arith) (omega arith) at (le-leb 4 (length body) (omega arith)))
+    (ap (reading 2 at) (append_assoc (trial_of t) (trial_records ts) left) ∙ reading_record 2 body (trial_records ts ++ left) (omega arith) (omega arith) at (le-leb 4 (length body) (omega arith)))
     (rw (take_at (bytes_of 4 t.score) t.bytes 4 (length_bytes 4 t.score), drop_at (bytes_of 4 t.score) t.bytes 4 (length_bytes 4 t.score), value_bytes 4 t.score s.0)
     (ap (λ x. x >>= λ q. Good (onto (t ∷ []) q)) (reading_prefix ts m (at + 4 + length body) left s.1 (omega arith))
     ∙ onto_more (t ∷ []) ts (read_trials m (at + 4 + length body + length (trial_records ts)) left)
@@ -131,7 +131,7 @@ pub winner_laid : (ts : List Trial) (n at k : ℕ) (left : List ℕ)
 unfolding read_end
 winner_laid ts n at k left =
     run (reading 3 at (record_of 3 (bytes_of 2 k) ++ left)) _
-    (reading-record 3 (bytes_of 2 k) left (omega arith) (omega (arith, length_bytes 2 k)) at (eq-eqb (length (bytes_of 2 k)) 2 (length_bytes 2 k))) refl
+    (reading_record 3 (bytes_of 2 k) left (omega arith) (omega (arith, length_bytes 2 k)) at (eq-eqb (length (bytes_of 2 k)) 2 (length_bytes 2 k))) refl
 
 -- the winner is read, and kind 4 is next
 pub to_shipping : (ts : List Trial) (k : ℕ) (left : List ℕ) → k < length ts → length ts < 65536 → Scores ts
@@ -159,5 +159,5 @@ reading_whole ts k ship s l n =
     let size = length_report ts k ship in
     to_shipping ts k (record_of 4 ship) l (omega (arith, count_bound ts, size)) s n
     (run (reading 4 (14 + length (trial_records ts)) (record_of 4 ship)) _
-    (ap (reading 4 (14 + length (trial_records ts))) (sym (append-nil (record_of 4 ship))) ∙ reading-record 4 ship [] (omega arith) (omega (arith, size)) (14 + length (trial_records ts)) refl)
+    (ap (reading 4 (14 + length (trial_records ts))) (sym (append-nil (record_of 4 ship))) ∙ reading_record 4 ship [] (omega arith) (omega (arith, size)) (14 + length (trial_records ts)) refl)
     (pass true 20 _ _ refl refl))

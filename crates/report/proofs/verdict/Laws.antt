@@ -30,16 +30,16 @@ abbrev pub Promised : List ℕ → Outcome → ℕ → Settings → Type 0
 Promised r t score s = Demand3 r (verdict_in t score s) × (score ≡ score_in (verdict r)) × (s ≡ settings_in (verdict r))
 
 module _ (r : List ℕ) (b : Bytes r) where
-  promised-by : (v : Verdict) (t : Outcome) (score : ℕ) (s : Settings) → verdict r ≡ v → verdict_in t score s ≡ v → score ≡ score_in v → s ≡ settings_in v
+  promised_by : (v : Verdict) (t : Outcome) (score : ℕ) (s : Settings) → verdict r ≡ v → verdict_in t score s ≡ v → score ≡ score_in v → s ≡ settings_in v
       → Promised r t score s
-  promised-by v t score s e q n f = (demand3_of r (verdict_in t score s) b (q ∙ sym e), n ∙ ap score_in (sym e), f ∙ ap settings_in (sym e))
+  promised_by v t score s e q n f = (demand3_of r (verdict_in t score s) b (q ∙ sym e), n ∙ ap score_in (sym e), f ∙ ap settings_in (sym e))
 
-  pub promised-no : {n p score : ℕ} {s : Settings} {t why : Outcome} → verdict r ≡ RefusedWith n p → (t ≡ why) × (score ≡ 0) × (s ≡ factory) → why ≡ Refused n p
+  pub promised_no : {n p score : ℕ} {s : Settings} {t why : Outcome} → verdict r ≡ RefusedWith n p → (t ≡ why) × (score ≡ 0) × (s ≡ factory) → why ≡ Refused n p
       → Promised r t score s
-  promised-no {n} {p} {score} {s} {t} h c e = promised-by (RefusedWith n p) t score s h (ap (λ (x : Outcome). verdict_in x score s) (c.0 ∙ e)) c.1 c.2
+  promised_no {n} {p} {score} {s} {t} h c e = promised_by (RefusedWith n p) t score s h (ap (λ (x : Outcome). verdict_in x score s) (c.0 ∙ e)) c.1 c.2
 
-  pub promised-yes : {k score : ℕ} {s : Settings} {t : Outcome} → verdict r ≡ Accepted k score s → t ≡ Value k → Promised r t score s
-  promised-yes {k} {score} {s} {t} h e = promised-by (Accepted k score s) t score s h (ap (λ (x : Outcome). verdict_in x score s) e) refl refl
+  pub promised_yes : {k score : ℕ} {s : Settings} {t : Outcome} → verdict r ≡ Accepted k score s → t ≡ Value k → Promised r t score s
+  promised_yes {k} {score} {s} {t} h e = promised_by (Accepted k score s) t score s h (ap (λ (x : Outcome). verdict_in x score s) e) refl refl
 
 -- A reading that gives a value, step by step.
 is_bad : {A : Type 0} → Out A → ℕ
@@ -73,11 +73,11 @@ of_end n at ts left p e =
     let k = need_good (ltb (value_of w.0.body) n) 16 at _ w.2 in
     let s = then_good (reading 4 (at + 6) w.0.left) _ k.1 in
     let g = need_good (is_nil s.0.left) 20 (at + 10 + length s.0.body) _ s.2 in
-    let is = good-same g.1 in
+    let is = good_same g.1 in
     record { list = ap (λ (x : Report). x.trials) (sym is); place = ap (λ (x : Report). x.place) (sym is); named = rw (sym is) (ltb-true (value_of w.0.body) n k.0) }
   where
-    good-same : {A : Type 0} {a b : A} → Good a ≡ Good b → a ≡ b
-    good-same q = cc
+    good_same : {A : Type 0} {a b : A} → Good a ≡ Good b → a ≡ b
+    good_same q = cc
 
 -- Refused before the end.
 pub head_no : (r : List ℕ) {n p : ℕ} → read_head r ≡ Bad n p → verdict r ≡ RefusedWith n p
@@ -100,13 +100,13 @@ module _ (r : List ℕ) {m at j score : ℕ} {e : Settings} (h : HeadIs r m) (b 
   abbrev end : Out Report
   end = read_end m (record { list = ts; at = at; left = drop at r })
 
-  verdict-end : verdict r ≡ verdict_of factory (end >>= check_report factory)
+  verdict_end : verdict r ≡ verdict_of factory (end >>= check_report factory)
   unfolding verdict read_report ◌>>=◌
-  verdict-end = rw (h.reads, b.reads)
+  verdict_end = rw (h.reads, b.reads)
 
   -- 17 where another is named
-  lowest-no : (k : ℕ) → k < m → (k ≡ j → ⊥) → first_lowest ts k ≡ false
-  lowest-no k l n =
+  lowest_no : (k : ℕ) → k < m → (k ≡ j → ⊥) → first_lowest ts k ≡ false
+  lowest_no k l n =
       bool_cases (first_lowest ts k)
       (λ y. absurd (n (lowest_one ts k j (omega (arith, b.count)) b.best.named (lowest_true ts k (omega (arith, b.count)) y) b.best.first))) (λ y. y)
 
@@ -117,41 +117,41 @@ module _ (r : List ℕ) {m at j score : ℕ} {e : Settings} (h : HeadIs r m) (b 
   refused_end (Good p) f {n} {x} g =
       let of = of_end m at ts (drop at r) p f in
       bool_cases (eqb p.winner j) (λ y. absurd (bad_good (sym g ∙ pass _ 17 at _ y refl))) λ y.
-      let no : first_lowest p.trials p.winner ≡ false = rw of.list (lowest-no p.winner of.named (eqb-false p.winner j y)) in
+      let no : first_lowest p.trials p.winner ≡ false = rw of.list (lowest_no p.winner of.named (eqb-false p.winner j y)) in
       let stops : check_report factory p ≡ Bad n x = fail _ 17 p.place _ no ∙ rw of.place (sym (fail _ 17 at (Good p) y) ∙ g) in
       ap (verdict_of factory) stops
 
-  pub winner-no : {n x : ℕ} → ((us : List Trial) → named_at r at m j us ≡ Bad n x) → verdict r ≡ RefusedWith n x
+  pub winner_no : {n x : ℕ} → ((us : List Trial) → named_at r at m j us ≡ Bad n x) → verdict r ≡ RefusedWith n x
   unfolding named_at
-  winner-no g = verdict-end ∙ refused_end end refl (g ts)
+  winner_no g = verdict_end ∙ refused_end end refl (g ts)
 
   -- the trial named is the first of the lowest-scored
   module _ {k : ℕ} (w : WinnerIs r at m j k) where
-    verdict-read : verdict r ≡ verdict_of factory (check_report factory (record { trials = ts; winner = j; shipping = ship_in r at; place = at }))
+    verdict_read : verdict r ≡ verdict_of factory (check_report factory (record { trials = ts; winner = j; shipping = ship_in r at; place = at }))
     unfolding ◌>>=◌
-    verdict-read =
+    verdict_read =
         let ten : at + 6 + 4 ≡ at + 10 = omega arith in
         let all : take (length r - (at + 10)) (drop (at + 10) r) ≡ drop (at + 10) r = take_all (length r - (at + 10)) (drop (at + 10) r) (omega (arith, length-drop (at + 10) r)) in
-        verdict-end ∙ rw (w.reads ts, w.named, ten, all)
+        verdict_end ∙ rw (w.reads ts, w.named, ten, all)
 
     lowest : first_lowest ts j ≡ true
     lowest = lowest_back ts j b.best.first
 
     pub refused_18 : {n : ℕ} → offence factory (ship_in r at) ≡ some n → verdict r ≡ RefusedWith 18 (at + 10 + n)
     unfolding verdict_of check_report
-    refused_18 x = verdict-read ∙ ap (verdict_of factory) (pass _ 17 at _ lowest (fail_some _ 18 (at + 10) _ x))
+    refused_18 x = verdict_read ∙ ap (verdict_of factory) (pass _ 17 at _ lowest (fail_some _ 18 (at + 10) _ x))
 
     module _ (yes : offence factory (ship_in r at) ≡ none) where
-      pub refused-19 : same_settings (play factory (ship_in r at)).settings e ≡ false → verdict r ≡ RefusedWith 19 (at + 6)
+      pub refused_19 : same_settings (play factory (ship_in r at)).settings e ≡ false → verdict r ≡ RefusedWith 19 (at + 6)
       unfolding verdict_of check_report
-      refused-19 x =
-          verdict-read
+      refused_19 x =
+          verdict_read
           ∙ ap (verdict_of factory) (pass _ 17 at _ lowest (pass_none _ 18 (at + 10) _ yes (fail _ 19 (at + 6) _ (ap (same_settings (play factory (ship_in r at)).settings) (sym b.best.ends) ∙ x))))
 
-      pub accepted-with : same_settings (play factory (ship_in r at)).settings e ≡ true → verdict r ≡ Accepted k score e
+      pub accepted_with : same_settings (play factory (ship_in r at)).settings e ≡ true → verdict r ≡ Accepted k score e
       unfolding verdict_of check_report
-      accepted-with same =
-          verdict-read
+      accepted_with same =
+          verdict_read
           ∙ ap (verdict_of factory) (pass _ 17 at _ lowest (pass_none _ 18 (at + 10) _ yes (pass _ 19 (at + 6) _ (ap (same_settings (play factory (ship_in r at)).settings) (sym b.best.ends) ∙ same) refl)))
           ∙ ap₂ (λ (x : ℕ) (y : Settings). Accepted j x y) (sym b.best.scored) (sym b.best.ends)
           ∙ ap (λ (x : ℕ). Accepted x score e) (sym w.named)

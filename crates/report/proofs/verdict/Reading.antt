@@ -39,13 +39,13 @@ module _ {B : Type 0} {S : ℕ → ℕ → Type 0} {Q : B → Type 0} {m : Out B
   needs true g k = k refl
   needs false g k = bad (g refl)
 
-  pub needs-none : (o : Option ℕ) → ((k : ℕ) → o ≡ some k → S n (p + k)) → (o ≡ none → Ends S Q m) → Ends S Q (without o n p >> m)
+  pub needs_none : (o : Option ℕ) → ((k : ℕ) → o ≡ some k → S n (p + k)) → (o ≡ none → Ends S Q m) → Ends S Q (without o n p >> m)
   unfolding ◌>>=◌ without
-  needs-none none g h = h refl
-  needs-none (some k) g h = bad (g k refl)
+  needs_none none g h = h refl
+  needs_none (some k) g h = bad (g k refl)
 
-  pub needs-equal : (x y : ℕ) → ((x ≡ y → ⊥) → S n p) → (x ≡ y → Ends S Q m) → Ends S Q (need (eqb x y) n p >> m)
-  needs-equal x y g k = needs (eqb x y) (λ e. g (eqb-false x y e)) (λ e. k (eqb-true x y e))
+  pub needs_equal : (x y : ℕ) → ((x ≡ y → ⊥) → S n p) → (x ≡ y → Ends S Q m) → Ends S Q (need (eqb x y) n p >> m)
+  needs_equal x y g k = needs (eqb x y) (λ e. g (eqb-false x y e)) (λ e. k (eqb-true x y e))
 
 -- Numbers and their bytes.
 bytes_whole : (n : ℕ) (b : List ℕ) → Bytes b → length b ≡ n → (bytes_of n (value_of b) ≡ b) × (value_of b < 256 ^ n)
@@ -81,21 +81,21 @@ short_false m n e =
 
 -- a whole record is the record of its kind and body
 module _ (b : List ℕ) (h : Bytes b) (l : 4 + value_of (take 2 b) ≤ length b) where
-  body-size : length (take (value_of (take 2 b)) (drop 4 b)) ≡ value_of (take 2 b)
-  body-size = length-take-le (value_of (take 2 b)) (drop 4 b) (simp length-drop (omega arith))
+  body_size : length (take (value_of (take 2 b)) (drop 4 b)) ≡ value_of (take 2 b)
+  body_size = length-take-le (value_of (take 2 b)) (drop 4 b) (simp length-drop (omega arith))
 
-  kind-bytes : (bytes_of 2 (value_of (take 2 (drop 2 b))) ≡ take 2 (drop 2 b)) × (value_of (take 2 (drop 2 b)) < 65536)
-  kind-bytes = bytes_front 2 (drop 2 b) (bytes_drop 2 b h) (simp length-drop (omega arith))
+  kind_bytes : (bytes_of 2 (value_of (take 2 (drop 2 b))) ≡ take 2 (drop 2 b)) × (value_of (take 2 (drop 2 b)) < 65536)
+  kind_bytes = bytes_front 2 (drop 2 b) (bytes_drop 2 b h) (simp length-drop (omega arith))
 
-  whole-cut : b ≡ record_of (value_of (take 2 (drop 2 b))) (take (value_of (take 2 b)) (drop 4 b)) ++ drop (4 + value_of (take 2 b)) b
+  whole_cut : b ≡ record_of (value_of (take 2 (drop 2 b))) (take (value_of (take 2 b)) (drop 4 b)) ++ drop (4 + value_of (take 2 b)) b
   unfolding record_of
-  whole-cut =
+  whole_cut =
       rw (
         append_assoc,
         append_assoc,
-        body-size,
+        body_size,
         (bytes_front 2 b h (omega arith)).0,
-        kind-bytes.0,
+        kind_bytes.0,
         cut_at 4 (value_of (take 2 b)) b,
         cut_at 2 2 b,
         take-append-drop 2 b,
@@ -106,9 +106,9 @@ unfolding reading
 reading_cut kind at b h =
     needs 11 at _ (λ t. Short (short_false (value_of (take 2 b)) (length b) t)) λ t.
     let l : 4 + value_of (take 2 b) ≤ length b = leb-true (4 + value_of (take 2 b)) (length b) (and_right (leb 4 (length b)) (leb (4 + value_of (take 2 b)) (length b)) t) in
-    let whole = whole-cut b h l in
-    let size = body-size b h l in
-    needs-equal 12 at _ _ (λ e. Other (value_of (take 2 (drop 2 b))) _ _ whole (kind-bytes b h l).1 e) λ e.
+    let whole = whole_cut b h l in
+    let size = body_size b h l in
+    needs_equal 12 at _ _ (λ e. Other (value_of (take 2 (drop 2 b))) _ _ whole (kind_bytes b h l).1 e) λ e.
     let joined = whole ∙ ap (λ (x : ℕ). record_of x (take (value_of (take 2 b)) (drop 4 b)) ++ drop (4 + value_of (take 2 b)) b) e in
     needs 13 at _ (λ s. Unsized _ _ joined (ap (sized kind) size ∙ s)) λ s.
     good
@@ -156,7 +156,7 @@ reading_head r b =
     let count = bytes_whole 2 (drop 2 h.body) (bytes_drop 2 h.body c.body_bytes) (simp length-drop (omega arith)) in
     let parts : h.body ≡ bytes_of 2 v ++ bytes_of 2 n = sym (ap₂ (λ (x y : List ℕ). x ++ y) version.0 count.0 ∙ take-append-drop 2 h.body) in
     let joined : r ≡ record_of 1 (bytes_of 2 v ++ bytes_of 2 n) ++ h.left = c.joined ∙ ap (λ (x : List ℕ). record_of 1 x ++ h.left) parts in
-    needs-equal 14 0 _ _ (λ e. Later 14 0 short (F14 v n h.left joined version.1 e)) λ v1.
+    needs_equal 14 0 _ _ (λ e. Later 14 0 short (F14 v n h.left joined version.1 e)) λ v1.
     let head : r ≡ head_of n ++ h.left = joined ∙ ap (λ (x : ℕ). record_of 1 (bytes_of 2 x ++ bytes_of 2 n) ++ h.left) v1 in
     needs 15 0 _ (λ e. Later 15 0 short (F15 h.left (head ∙ ap (λ (x : ℕ). head_of x ++ h.left) (eqb-true n 0 (not_false (eqb n 0) e))))) λ z.
     let eight : length (head_of n) ≡ 8 = length_record 1 (bytes_of 2 1 ++ bytes_of 2 n) ∙ ap (λ (x : List ℕ). 4 + length x) (sym (parts ∙ ap (λ (x : ℕ). bytes_of 2 x ++ bytes_of 2 n) v1)) ∙ ap (λ (x : ℕ). 4 + x) four in
@@ -191,8 +191,8 @@ module _ (ts : List Trial) (t : Trial) where
   unfolding trial_records
   one_more = records_append ts (t ∷ []) ∙ ap (λ (x : List ℕ). trial_records ts ++ x) (append-nil (trial_of t))
 
-  begins-more : {r : List ℕ} {n : ℕ} {b left : List ℕ} → Begins r n ts b → t.score < 2 ^ 32 → b ≡ trial_of t ++ left → Begins r n (ts ++ (t ∷ [])) left
-  begins-more {n = n} {left = left} g s e =
+  begins_more : {r : List ℕ} {n : ℕ} {b left : List ℕ} → Begins r n ts b → t.score < 2 ^ 32 → b ≡ trial_of t ++ left → Begins r n (ts ++ (t ∷ [])) left
+  begins_more {n = n} {left = left} g s e =
       record {
         joined = g.joined ∙ rw (e, one_more, append_assoc);
         count = g.count;
@@ -218,7 +218,7 @@ reading_trials r total (suc n) at ts b g c a h =
     let next : at + 4 + length p.body ≡ 8 + length (trial_records (ts ++ (one ∷ []))) = omega (arith, length_more ts one, ap length whole) in
     then _
     (reading_trials r total n (at + 4 + length p.body) (ts ++ (one ∷ [])) p.left
-    (begins-more ts one g score.1 (d.joined ∙ ap (λ (x : List ℕ). record_of 2 x ++ p.left) (sym whole)))
+    (begins_more ts one g score.1 (d.joined ∙ ap (λ (x : List ℕ). record_of 2 x ++ p.left) (sym whole)))
     (omega (arith, length-append ts (one ∷ []))) next d.left_bytes)
     (λ x y f. f) λ q k.
     good (subst (λ (x : List Trial). Begun r total (record { list = x; at = q.at; left = q.left })) (append_assoc ts (one ∷ []) q.list) k)

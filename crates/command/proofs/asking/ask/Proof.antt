@@ -22,7 +22,7 @@ use Rattle.command.specs.Inner.{held_by}
 use Rattle.command.specs.declared.judgement.Judgement.{Judgement}
 use Rattle.command.proofs.controller.Laws.{rule_parts}
 use Rattle.command.proofs.judgement.Laws.{packet_parts}
-use Rattle.command.proofs.transfer.Laws.{held_is, held-most}
+use Rattle.command.proofs.transfer.Laws.{held_is, held_most}
 use Rattle.command.proofs.asking.Laws.{data_fit, out_of_rule, not_one, judges}
 use Rattle.command.proofs.asking.ask.Statement.{statement}
 use Rattle.command.proofs.asking.ask.Tie as tie
@@ -57,7 +57,7 @@ returns-2 c =
     let s = start e.before in
     rw (c.refused2.ensures.0, c.refused2.ensures.1)
     (not_one (without_hold s.args.settings s.args.r s.args.buffer.now) s.args.input.now (record_of no_ruling s.args.joined.now) (in_rule_lem e)
-    (none-there s.args.input.now (next_none s.args.input.now (sym n.next-packet.ensures ∙ m.enum_told.given.1))))
+    (none-there s.args.input.now (next_none s.args.input.now (sym n.next_packet.ensures ∙ m.enum_told.given.1))))
 
 -- what is known of the packet that does
 module _ (k : tie.After-known-told) where
@@ -71,7 +71,7 @@ module _ (k : tie.After-known-told) where
   bytes = came.args.input.now
 
   there : (has_packet bytes ≡ true) × (size bytes ≡ k.before.size.given.0.0) × (right_sum bytes ≡ k.before.size.given.0.1.0)
-  there = next_some bytes k.before.size.given.0.0 k.before.size.given.0.1.0 (sym said.next-packet.ensures ∙ k.before.size.given.1)
+  there = next_some bytes k.before.size.given.0.0 k.before.size.given.0.1.0 (sym said.next_packet.ensures ∙ k.before.size.given.1)
 
 -- or it is not all of the bytes
 not-all : (b : List ℕ) → (size b ≡ length b → ⊥) → has_packet b ≡ true → one_packet b ≡ false
@@ -139,7 +139,7 @@ module _ (g : tie.After-judge) where
       subst (λ (j : Judgement). length (data_for (held_by t.transfer.result buffer) (payload p) j) ≤ 1024) (sym judged-is)
       (rw (← held_is t.transfer.result rule buffer)
       (data_fit _ (transfer_in t.transfer.result buffer) (arrived p)
-      (omega (arith, ap length (held_is t.transfer.result rule buffer), length-take-le (held_in t.transfer.result) buffer (omega (arith, held-most t.transfer.result rule)), held-most t.transfer.result rule))
+      (omega (arith, ap length (held_is t.transfer.result rule buffer), length-take-le (held_in t.transfer.result) buffer (omega (arith, held_most t.transfer.result rule)), held_most t.transfer.result rule))
       (payload_length_lem p (whole t.before))))
 
 sub-payload : tie.Need-overflow-sub-payload

@@ -8,7 +8,7 @@ use lib.Seq.{sets, length-take-le}
 use borrow.Author.Rules.{rules}
 use Rattle.packet.specs.Packet.{error}
 use Rattle.command.specs.Inner.{held_by}
-use Rattle.command.proofs.transfer.Laws.{held-most}
+use Rattle.command.proofs.transfer.Laws.{held_most}
 use Rattle.command.proofs.asking.Laws.{data_error, data_accepted, stored_first, stored_both}
 use Rattle.command.proofs.asking.keep.Statement.{statement}
 use Rattle.command.proofs.asking.keep.Tie as tie
@@ -21,7 +21,7 @@ start h = h.before.before.before
 counted : (h : tie.After-held) → length (take h.held.result (start h).args.buffer.now) ≡ h.held.result
 counted h =
     let s = start h in
-    length-take-le h.held.result s.args.buffer.now (omega (arith, h.held.ensures, held-most s.args.t s.pre.0, s.pre.1))
+    length-take-le h.held.result s.args.buffer.now (omega (arith, h.held.ensures, held_most s.args.t s.pre.0, s.pre.1))
 
 slice-aggregate-store : tie.Need-slice-aggregate-store
 slice-aggregate-store c = sym (counted c.before.before)
@@ -48,7 +48,7 @@ add-result : tie.Need-overflow-add-result
 add-result c =
     let h = c.before.before.before.before.before.before.before in
     let s = start h in
-    omega (arith, h.held.ensures, held-most s.args.t s.pre.0, s.pre.2)
+    omega (arith, h.held.ensures, held_most s.args.t s.pre.0, s.pre.2)
 
 returns-2 : tie.Need-returns-2
 returns-2 c =

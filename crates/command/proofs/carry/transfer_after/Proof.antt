@@ -2,7 +2,7 @@
 use mathlib.Core.Path.{refl}
 use native.Mathlib.Omega.{arith}
 use borrow.Author.Rules.{rules}
-use Rattle.command.proofs.transfer.Laws.{held-most}
+use Rattle.command.proofs.transfer.Laws.{held_most}
 use Rattle.command.proofs.carry.transfer_after.Statement.{statement}
 use Rattle.command.proofs.carry.transfer_after.Tie as tie
 
@@ -12,7 +12,7 @@ returns c = rw c.enum_told.given.1 (refl, refl)
 add-t13 : tie.Need-overflow-add-t13
 add-t13 c =
     let s = c.before.before.before.before.before.before.before.before in
-    omega (arith, c.before.before.held.ensures, held-most s.args.t s.requires.0, s.requires.1)
+    omega (arith, c.before.before.held.ensures, held_most s.args.t s.requires.0, s.requires.1)
 
 returns-2 : tie.Need-returns-2
 returns-2 c =

@@ -17,8 +17,8 @@ use Rattle.command.proofs.carrying.accepted.Tie as tie
 order : (o : tie.After-open-for)
     → let t = o.before.before in
     let a = t.before.before.before.args in
-    (eqb t.transfer.result.active 0 || o.open-for.result) ≡ (eqb a.n.kept.active 0 || open_for_in (Known a.c) (transfer_of_kept a.n.kept))
-order o = rw (o.open-for.ensures, o.before.before.transfer.ensures)
+    (eqb t.transfer.result.active 0 || o.open_for_lem.result) ≡ (eqb a.n.kept.active 0 || open_for_in (Known a.c) (transfer_of_kept a.n.kept))
+order o = rw (o.open_for_lem.ensures, o.before.before.transfer.ensures)
 
 returns : tie.Need-returns
 returns c = let o = c.before.before in rw (← order o, c.if1.true)

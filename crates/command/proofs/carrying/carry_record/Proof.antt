@@ -4,7 +4,7 @@ use native.Mathlib.Omega.{arith}
 use borrow.Author.Rules.{rules}
 use Rattle.command.specs.Controller.{transfer_of, held_in}
 use Rattle.command.specs.Encoder.{Writes}
-use Rattle.command.proofs.transfer.Laws.{held-most}
+use Rattle.command.proofs.transfer.Laws.{held_most}
 use Rattle.command.proofs.carrying.Laws.{part_is}
 use Rattle.command.proofs.carrying.carry_record.Statement.{statement}
 use Rattle.command.proofs.carrying.carry_record.Tie as tie
@@ -16,7 +16,7 @@ counted h = h.held.ensures ∙ ap held_in h.before.transfer.ensures
 end-requires : tie.Need-end-requires
 end-requires c κs =
     let s = c.before.before.before.before.before in
-    rw (counted c.before) (held-most (transfer_of s.args.r) s.requires.0)
+    rw (counted c.before) (held_most (transfer_of s.args.r) s.requires.0)
 
 returns : tie.Need-returns
 returns c =

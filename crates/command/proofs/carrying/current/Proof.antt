@@ -11,7 +11,7 @@ use Rattle.command.specs.Controller.{held_in}
 use Rattle.command.specs.Data.{same_list}
 use Rattle.command.specs.Ruling.{items_in, same_items, transfer_of_kept}
 use Rattle.command.specs.Inner.{same_numbers}
-use Rattle.command.proofs.transfer.Laws.{held-most}
+use Rattle.command.proofs.transfer.Laws.{held_most}
 use Rattle.command.proofs.carrying.Laws.{same_items_lem}
 use Rattle.command.proofs.carrying.current.Statement.{statement}
 use Rattle.command.proofs.carrying.current.Tie as tie
@@ -47,7 +47,7 @@ counted : (h : tie.After-held)
     (length (take n a.buffer.now) ≡ n) × (length (take n a.joined.now) ≡ n)
 counted h =
     let s = h.before.before.before.before.before.before.before.before in
-    let m = held-most s.args.t s.requires.0 in (
+    let m = held_most s.args.t s.requires.0 in (
       length-take-le h.held.result s.args.buffer.now (omega (arith, m, h.held.ensures, s.requires.1)),
       length-take-le h.held.result s.args.joined.now (omega (arith, m, h.held.ensures, s.requires.2)),
     )

@@ -7,7 +7,7 @@ use borrow.Author.Tests.{eq-eqb, ne_eqb, not-true, not_false}
 use Rattle.command.specs.Lent.{record_of}
 use Rattle.command.specs.Inner.{ruling_in_rule}
 use Rattle.command.specs.declared.judgement.Judgement.TheVariants.{Error}
-use Rattle.command.proofs.carrying.Laws.{drawn, drawn_told, drawn-out, drawn-unknown, drawn-known, in_rule_lem}
+use Rattle.command.proofs.carrying.Laws.{drawn, drawn_told, drawn_out, drawn_unknown, drawn_known, in_rule_lem}
 use Rattle.command.proofs.carrying.meaning.Statement.{statement}
 use Rattle.command.proofs.carrying.meaning.Tie as tie
 
@@ -30,7 +30,7 @@ returns-3 : tie.Need-returns-3
 returns-3 c =
     let x = c.before in
     let a = x.before.before.before.before.args in
-    sym (drawn-out a.n a.joined.now (eq-eqb a.n.codes 0 x.before.if1.false)
+    sym (drawn_out a.n a.joined.now (eq-eqb a.n.codes 0 x.before.if1.false)
     (sym x.ruling-in-rule.ensures ∙ not-true x.ruling-in-rule.result c.if3.true))
 
 returns-4 : tie.Need-returns-4
@@ -38,7 +38,7 @@ returns-4 c =
     let f = c.before.before in
     let x = f.before.before in
     let a = x.before.before.before.before.args in
-    sym (drawn-unknown a.n a.joined.now (eq-eqb a.n.codes 0 x.before.if1.false) (sym f.find.ensures ∙ c.enum_told.given.1))
+    sym (drawn_unknown a.n a.joined.now (eq-eqb a.n.codes 0 x.before.if1.false) (sym f.find.ensures ∙ c.enum_told.given.1))
 
 -- one of a command of the table
 accepted-requires : tie.Need-accepted-requires
@@ -54,7 +54,7 @@ returns-5 c =
     let e = f.before in
     let a = e.before.before.before.before.before.args in
     c.accepted.ensures
-    ∙ sym (drawn-known a.n a.joined.now x.before.c.given.0.0 (eq-eqb a.n.codes 0 e.before.before.if1.false) (sym f.find.ensures ∙ x.before.c.given.1) (ruled e))
+    ∙ sym (drawn_known a.n a.joined.now x.before.c.given.0.0 (eq-eqb a.n.codes 0 e.before.before.if1.false) (sym f.find.ensures ∙ x.before.c.given.1) (ruled e))
 
 pub meaning_spec : {M : Type 1} → statement M
 meaning_spec =

@@ -12,7 +12,7 @@ use Rattle.command.specs.Lent.{without_hold, record_of, is_written}
 use Rattle.command.specs.Inner.{meant_of}
 use Rattle.command.specs.declared.ruling.JudgementRecord.{JudgementRecord}
 use Rattle.command.proofs.controller.Laws.{rule_parts}
-use Rattle.command.proofs.carrying.Laws.{drawn_none, drawn_some, carries-is, carry-call}
+use Rattle.command.proofs.carrying.Laws.{drawn_none, drawn_some, carries_is, carry_call_lem}
 use Rattle.command.proofs.carrying.perform.Statement.{statement}
 use Rattle.command.proofs.carrying.perform.Tie as tie
 
@@ -99,8 +99,8 @@ returns-5 c =
     let d = drawn-so k in
     let i = items k (not_false k.current.result f.if3.false) in
     let z = rw d.1 at w.carry-record.ensures in (
-      carries-is a.settings a.r a.buffer.now a.n a.joined.now d.0 i z
-          ∙ sym (carry-call a.settings a.r a.buffer.now a.n a.joined.now d.0 i a.out.now (passed e).0 (passed e).1),
+      carries_is a.settings a.r a.buffer.now a.n a.joined.now d.0 i z
+          ∙ sym (carry_call_lem a.settings a.r a.buffer.now a.n a.joined.now d.0 i a.out.now (passed e).0 (passed e).1),
       z.stored ∙ sym (ap is_written z.answer),
     )
 

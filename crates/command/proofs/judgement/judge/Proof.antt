@@ -11,8 +11,8 @@ use Rattle.packet.specs.Packet.{type_of, flags_of}
 use Rattle.command.specs.Judgement.{judge_data, judge}
 use Rattle.command.specs.Controller.{held_in, transfer_in, packet_in}
 use Rattle.command.specs.declared.judgement.Judgement.TheVariants.{Error}
-use Rattle.command.proofs.transfer.Laws.{held-most}
-use Rattle.command.proofs.judgement.Laws.{judge-unknown, judge-known}
+use Rattle.command.proofs.transfer.Laws.{held_most}
+use Rattle.command.proofs.judgement.Laws.{judge_unknown, judge_known}
 use Rattle.command.proofs.judgement.judge.Statement.{statement}
 use Rattle.command.proofs.judgement.judge.Tie as tie
 
@@ -23,7 +23,7 @@ returns c =
     let s = f.before.before.before.before in
     let a = s.args in
     ap Error f.faults.ensures
-    ∙ judge-unknown a.mode a.t a.t3 a.right a.buffer.now a.payload.now s.requires.0 s.requires.1 _ f.before.find.ensures c.enum_told.given.1
+    ∙ judge_unknown a.mode a.t a.t3 a.right a.buffer.now a.payload.now s.requires.0 s.requires.1 _ f.before.find.ensures c.enum_told.given.1
 
 -- one that is, by the codes of the first group
 judged : (c : tie.After-first-group)
@@ -37,7 +37,7 @@ judged c =
     let s = f.before.before.before.before in
     let a = s.args in
     rw (c.first_group.ensures, f.faults.ensures)
-    (judge-known a.mode a.t a.t3 a.right a.buffer.now a.payload.now s.requires.0 s.requires.1 _ f.before.find.ensures _ c.before.before.found.given.1)
+    (judge_known a.mode a.t a.t3 a.right a.buffer.now a.payload.now s.requires.0 s.requires.1 _ f.before.find.ensures _ c.before.before.found.given.1)
 
 returns-2 : tie.Need-returns-2
 returns-2 c = rw c.if1.true at (judged c.before)
@@ -47,7 +47,7 @@ counted : (c : tie.After-held) → let a = c.before.before.before.before.before.
     (c.held.result ≤ 1024) × (length (take c.held.result a.buffer.now) ≡ c.held.result)
 counted c =
     let s = c.before.before.before.before.before.before.before.before.before.before in
-    let n : c.held.result ≤ 1024 = omega (arith, c.held.ensures, held-most s.args.t s.requires.0) in
+    let n : c.held.result ≤ 1024 = omega (arith, c.held.ensures, held_most s.args.t s.requires.0) in
     (n, length-take-le c.held.result s.args.buffer.now (omega (arith, s.requires.1)))
 
 slice-aggregate-judge-data : tie.Need-slice-aggregate-judge-data

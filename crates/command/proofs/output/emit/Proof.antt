@@ -6,7 +6,7 @@ use lib.ListN.{length}
 use lib.Seq.{length-take-le}
 use borrow.Author.Rules.{rules}
 use Rattle.packet.specs.Packet.{whole}
-use Rattle.packet.proofs.WriterLaws.{has_room, size-written}
+use Rattle.packet.proofs.WriterLaws.{has_room, size_written}
 use Rattle.command.specs.Inner.{contents}
 use Rattle.command.proofs.output.emit.Statement.{statement}
 use Rattle.command.proofs.output.emit.Tie as tie
@@ -33,8 +33,8 @@ returns c =
     let s = w.before.before.before.before.before in
     let a = s.args in
     let n : length (contents a.d) ≤ 17 = omega (arith, counted s, s.requires.1) in (
-      sym (size-written a.kind a.cmd1 a.cmd2 whole (contents a.d) (omega arith) ∙ ap (λ (n : ℕ). n + 7) (counted s)),
-      w.write-packet.ensures.1 ∙ rw (has_room (length a.out.now) (contents a.d) (omega arith) (omega (arith, s.requires.0))),
+      sym (size_written a.kind a.cmd1 a.cmd2 whole (contents a.d) (omega arith) ∙ ap (λ (n : ℕ). n + 7) (counted s)),
+      w.write_packet_lem.ensures.1 ∙ rw (has_room (length a.out.now) (contents a.d) (omega arith) (omega (arith, s.requires.0))),
     )
 
 pub emit_spec : {M : Type 1} → statement M

@@ -17,7 +17,7 @@ use Rattle.command.specs.Inner.{state_in}
 use Rattle.command.proofs.transfer.Laws.{open_is}
 use Rattle.command.specs.Player.{judged, place_of}
 use Rattle.command.proofs.carry.Laws.{buffer_kept}
-use Rattle.command.proofs.player.Turns.{Going, Turned, going_start, going-packet, going_end, next-packet, rule-kept}
+use Rattle.command.proofs.player.Turns.{Going, Turned, going_start, going_packet, going_end, next_packet, rule_kept}
 use Rattle.command.proofs.player.play.Statement.{statement}
 use Rattle.command.proofs.player.play.Tie as tie
 
@@ -51,7 +51,7 @@ turn : (c : tie.After-size invariant-loop decreases-loop)
     c.size.given.0.0 c.size.given.0.1.0
 turn c =
     let l = c.before.before.before.before in
-    going-packet l.loop.invariant.3 c.size.given.0.0 c.size.given.0.1.0 (sym c.before.before.next-packet.ensures ∙ c.size.given.1) l.loop.invariant.0
+    going_packet l.loop.invariant.3 c.size.given.0.0 c.size.given.0.1.0 (sym c.before.before.next_packet.ensures ∙ c.size.given.1) l.loop.invariant.0
 
 -- all of it is in the slice
 within : (c : tie.After-size invariant-loop decreases-loop)
@@ -123,13 +123,13 @@ loop-again c =
     let y = rw (handed k) at c.transfer-after.ensures.1 in
     let z = ap (λ (i : ℕ). take (i - 1 - 6) (drop 6 p)) (sym (counted k).0) in (
       t.within,
-      rw x (rule-kept o.settings o.transfer o.buffer p o.invariant.1 o.invariant.2 t.whole z j),
+      rw x (rule_kept o.settings o.transfer o.buffer p o.invariant.1 o.invariant.2 t.whole z j),
       rw y (buffer_kept o.transfer o.buffer _ g.judge-bytes.result ∙ o.invariant.2),
       rw (
         c.before.before.before.settings-after.ensures,
         x,
         y,
-        next-packet o.settings o.transfer o.buffer p o.invariant.1 o.invariant.2 t.whole z j,
+        next_packet o.settings o.transfer o.buffer p o.invariant.1 o.invariant.2 t.whole z j,
         f.or.ensures,
         u.unacknowledged.ensures,
         c.before.before.before.before.opener-with.ensures,

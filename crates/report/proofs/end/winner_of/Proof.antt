@@ -4,8 +4,8 @@ use mathlib.Core.List.{List}
 use native.Mathlib.Omega.{arith}
 use borrow.Author.Rules.{rules}
 use Rattle.report.specs.Inner.{RecordIs}
-use Rattle.report.proofs.record.Laws.{found, missed, size-winner}
-use Rattle.report.proofs.end.Laws.{end-no, winner-missed, end-16, shipping-missed, end-20, end-17, end_is}
+use Rattle.report.proofs.record.Laws.{found, missed, size_winner}
+use Rattle.report.proofs.end.Laws.{end_no, winner_missed, end_16, shipping_missed, end_20, end_17, end_is}
 use Rattle.report.proofs.end.winner_of.Statement.{statement}
 use Rattle.report.proofs.end.winner_of.Tie as tie
 
@@ -31,16 +31,16 @@ returns c =
     let s = p.before.before in
     let a = s.args in
     let o = c.enum-told2.given in
-    end-no (reportIn s) a.at a.count a.best o.1
-    (winner-missed (reportIn s) a.at a.count a.best (missed (reportIn s) 3 a.at o.1 p.record-at.ensures))
+    end_no (reportIn s) a.at a.count a.best o.1
+    (winner_missed (reportIn s) a.at a.count a.best (missed (reportIn s) 3 a.at o.1 p.record-at.ensures))
 
 returns-2 : tie.Need-returns-2
 returns-2 c =
     let w = c.before.before in
     let s = start_of w in
     let a = s.args in
-    end-no (reportIn s) a.at a.count a.best c.refusal.ensures
-    (end-16 (reportIn s) a.at a.count a.best (found-winner w.before) w.word_at.ensures.0 c.before.if1.true)
+    end_no (reportIn s) a.at a.count a.best c.refusal.ensures
+    (end_16 (reportIn s) a.at a.count a.best (found-winner w.before) w.word_at.ensures.0 c.before.if1.true)
 
 returns-3 : tie.Need-returns-3
 returns-3 c =
@@ -50,8 +50,8 @@ returns-3 c =
     let s = start_of w in
     let a = s.args in
     let o = c.enum-told3.given in
-    end-no (reportIn s) a.at a.count a.best o.1
-    (shipping-missed (reportIn s) a.at a.count a.best (found-winner w.before) w.word_at.ensures.0 t.if1.false (missed (reportIn s) 4 (a.at + 6) o.1 p.record-at2.ensures))
+    end_no (reportIn s) a.at a.count a.best o.1
+    (shipping_missed (reportIn s) a.at a.count a.best (found-winner w.before) w.word_at.ensures.0 t.if1.false (missed (reportIn s) 4 (a.at + 6) o.1 p.record-at2.ensures))
 
 returns-4 : tie.Need-returns-4
 returns-4 c =
@@ -60,8 +60,8 @@ returns-4 c =
     let w = t.before in
     let s = start_of w in
     let a = s.args in
-    end-no (reportIn s) a.at a.count a.best c.refusal2.ensures
-    (end-20 (reportIn s) a.at a.count a.best (found-winner w.before) w.word_at.ensures.0 t.if1.false (found-shipping h) c.before.if2.true)
+    end_no (reportIn s) a.at a.count a.best c.refusal2.ensures
+    (end_20 (reportIn s) a.at a.count a.best (found-winner w.before) w.word_at.ensures.0 t.if1.false (found-shipping h) c.before.if2.true)
 
 returns-5 : tie.Need-returns-5
 returns-5 c =
@@ -71,7 +71,7 @@ returns-5 c =
     let w = t.before in
     let s = start_of w in
     let a = s.args in
-    end-17 (reportIn s) a.at a.count a.best (found-winner w.before) w.word_at.ensures.0 t.if1.false (found-shipping h) e.if2.false c.refusal3.ensures c.before.if3.true
+    end_17 (reportIn s) a.at a.count a.best (found-winner w.before) w.word_at.ensures.0 t.if1.false (found-shipping h) e.if2.false c.refusal3.ensures c.before.if3.true
 
 returns-6 : tie.Need-returns-6
 returns-6 c =
@@ -87,9 +87,9 @@ pub winner_of_spec : {M : Type 1} → statement M
 winner_of_spec =
     tie.close
     (tie.spec (λ c κs. search rules) (λ c. search rules) (λ c. search rules) returns (λ c. search rules)
-    (λ c κs. omega (arith, (found-winner c).within, size-winner (found-winner c))) (λ c. search rules)
+    (λ c κs. omega (arith, (found-winner c).within, size_winner (found-winner c))) (λ c. search rules)
     (λ c κs. search rules) returns-2
-    (λ c κs. omega (arith, (found-winner c.before.before).within, size-winner (found-winner c.before.before)))
+    (λ c κs. omega (arith, (found-winner c.before.before).within, size_winner (found-winner c.before.before)))
     (λ c. search rules) (λ c. search rules) returns-3 (λ c. search rules)
     (λ c. omega (arith, (found-shipping c.before).within)) (λ c κs. search rules) returns-4 (λ c κs. search rules)
     returns-5 returns-6)

@@ -5,8 +5,8 @@ use mathlib.Core.List.{List}
 use native.Mathlib.Omega.{arith}
 use borrow.Author.Rules.{rules}
 use Rattle.report.specs.Inner.{RecordIs, HeadAt}
-use Rattle.report.proofs.record.Laws.{found, missed, size-head}
-use Rattle.report.proofs.head.Laws.{head_long, head-missed, head-14, head-15, head-is}
+use Rattle.report.proofs.record.Laws.{found, missed, size_head}
+use Rattle.report.proofs.head.Laws.{head_long, head_missed, head_14, head_15, head_is}
 use Rattle.report.proofs.head.count_of.Statement.{statement}
 use Rattle.report.proofs.head.count_of.Tie as tie
 
@@ -26,7 +26,7 @@ returns-2 c =
     let p = c.before.before in
     let r = reportIn p.before in
     let o = c.enum-told2.given in
-    subst (HeadAt r) (sym o.1) (head-missed r p.before.if1.false (missed r 1 0 o.1 p.record-at.ensures))
+    subst (HeadAt r) (sym o.1) (head_missed r p.before.if1.false (missed r 1 0 o.1 p.record-at.ensures))
 
 returns-3 : tie.Need-returns-3
 returns-3 c =
@@ -34,7 +34,7 @@ returns-3 c =
     let e = v.before.before in
     let k = e.before.before.before in
     subst (HeadAt (reportIn k)) (sym c.refusal2.ensures)
-    (head-14 (reportIn k) k.if1.false (found-head e) v.before.word_at.ensures.0 v.word-at2.ensures.0 c.before.if2.true)
+    (head_14 (reportIn k) k.if1.false (found-head e) v.before.word_at.ensures.0 v.word-at2.ensures.0 c.before.if2.true)
 
 returns-4 : tie.Need-returns-4
 returns-4 c =
@@ -42,20 +42,20 @@ returns-4 c =
     let e = v.before.before in
     let k = e.before.before.before in
     subst (HeadAt (reportIn k)) (sym c.refusal3.ensures)
-    (head-15 (reportIn k) k.if1.false (found-head e) v.before.word_at.ensures.0 v.word-at2.ensures.0 c.before.before.if2.false c.before.if3.true)
+    (head_15 (reportIn k) k.if1.false (found-head e) v.before.word_at.ensures.0 v.word-at2.ensures.0 c.before.before.if2.false c.before.if3.true)
 
 returns-5 : tie.Need-returns-5
 returns-5 c =
     let v = c.before.before in
     let e = v.before.before in
     let k = e.before.before.before in
-    head-is (reportIn k) k.if1.false (found-head e) v.before.word_at.ensures.0 v.word-at2.ensures.0 c.before.if2.false c.if3.false
+    head_is (reportIn k) k.if1.false (found-head e) v.before.word_at.ensures.0 v.word-at2.ensures.0 c.before.if2.false c.if3.false
 
 pub count_of_spec : {M : Type 1} → statement M
 count_of_spec =
     tie.close
     (tie.spec (λ c κs. search rules) returns (λ c κs. search rules) (λ c. search rules) (λ c. search rules) returns-2
-    (λ c κs. omega (arith, (found-head c).within, size-head (found-head c)))
+    (λ c κs. omega (arith, (found-head c).within, size_head (found-head c)))
     (λ c. search rules)
-    (λ c κs. omega (arith, (found-head c.before).within, size-head (found-head c.before))) (λ c κs. search rules)
+    (λ c κs. omega (arith, (found-head c.before).within, size_head (found-head c.before))) (λ c κs. search rules)
     returns-3 (λ c κs. search rules) returns-4 returns-5)

@@ -6,7 +6,7 @@ use native.Mathlib.Omega.{arith}
 use lib.ListN.{length, drop, length-set}
 use borrow.Author.Rules.{rules}
 use Rattle.report.specs.Line.{decimal}
-use Rattle.report.proofs.line.Laws.{decimal_few, digits-room, digits_more, digits_last}
+use Rattle.report.proofs.line.Laws.{decimal_few, digits_room, digits_more, digits_last}
 use Rattle.report.proofs.line.digits_of.Statement.{statement}
 use Rattle.report.proofs.line.digits_of.Tie as tie
 
@@ -23,7 +23,7 @@ room : (c : tie.In-loop invariant-loop decreases-loop) → 1 ≤ c.before.loop.f
 room c =
     let l = c.before.loop in
     let a = c.before.before in
-    digits-room a.args.n l.left l.from l.bytes l.invariant.2 (omega (arith, l.invariant.0, l.invariant.1))
+    digits_room a.args.n l.left l.from l.bytes l.invariant.2 (omega (arith, l.invariant.0, l.invariant.1))
     (omega (arith, l.invariant.1, decimal_few a.args.n (omega (arith, a.ranges.n)))) c.loop-test.true
 
 loop-again : tie.Need-loop-preserved invariant-loop decreases-loop

@@ -7,7 +7,7 @@ use borrow.Author.Rules.{rules}
 use lib.ListN.{length, length-append}
 use lib.Seq.{sets, length-sets}
 use Rattle.report.specs.Line.{text_of, decimal}
-use Rattle.report.proofs.line.Laws.{decimal_few, put_two, put-sentence}
+use Rattle.report.proofs.line.Laws.{decimal_few, put_two, put_sentence}
 use Rattle.report.proofs.line.put_sentence.Statement.{statement}
 use Rattle.report.proofs.line.put_sentence.Tie as tie
 
@@ -64,7 +64,7 @@ returns c =
     let z = p.before.before.before.before.before in
     let s = start (once z) in
     let a = s.args in
-    put-sentence a.first.now a.second.now a.m a.n a.out.now s.pre.1 (few s).0 (few s).1 s.pre.0
+    put_sentence a.first.now a.second.now a.m a.n a.out.now s.pre.1 (few s).0 (few s).1 s.pre.0
     (put_two a.out.now (front s ++ back s) (text_of "\n") 0 (both z) refl p.put.ensures)
 
 pub put_sentence_spec : {M : Type 1} → statement M

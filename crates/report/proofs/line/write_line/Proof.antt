@@ -6,7 +6,7 @@ use Rattle.report.proofs.line.write_line.Tie as tie
 
 returns : tie.Need-returns
 unfolding line_of text_of
-returns c = rw c.before.before.before.before.before.trial.given.1 c.put-sentence.ensures
+returns c = rw c.before.before.before.before.before.trial.given.1 c.put_sentence.ensures
 
 returns-2 : tie.Need-returns-2
 unfolding line_of text_of

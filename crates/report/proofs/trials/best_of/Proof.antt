@@ -8,8 +8,8 @@ use borrow.Author.Rules.{rules}
 use Rattle.command.specs.declared.settings.Settings.{Settings}
 use Rattle.report.specs.Inner.{RecordIs, BestAt}
 use Rattle.report.specs.declared.record.Outcome.{Outcome}
-use Rattle.report.proofs.record.Laws.{found, missed, size-trial}
-use Rattle.report.proofs.trials.Turns.{Walked, walked_start, walked-better, walked-other, walked_missed, walked_end}
+use Rattle.report.proofs.record.Laws.{found, missed, size_trial}
+use Rattle.report.proofs.trials.Turns.{Walked, walked_start, walked_better, walked_other, walked_missed, walked_end}
 use Rattle.report.proofs.trials.best_of.Statement.{statement}
 use Rattle.report.proofs.trials.best_of.Tie as tie
 
@@ -46,7 +46,7 @@ inside : (c : tie.After-long-at invariant-loop decreases-loop)
     → let d = c.before.before in
     let l = d.before.before.before.before in
     (l.loop.at + 8 ≤ l.loop.at + 4 + d.due.given.0.0)
-inside c = omega (arith, size-trial (found-trial c.before.before))
+inside c = omega (arith, size_trial (found-trial c.before.before))
 
 abbrev turn : tie.Joined1 invariant-loop decreases-loop → tie.In-loop invariant-loop decreases-loop
 turn c = c.before.before.before.before.before.before.before.before.before
@@ -63,8 +63,8 @@ again c =
     let l = d.before.before.before.before in
     let w = l.loop.invariant.1 in
     elim c.if1.branch [
-      | inl q ↦ rw (q.1, q.2, q.3) (walked-better w (found-trial d) g.long-at.ensures p.play.ensures.0 q.0.taken)
-      | inr q ↦ rw (q.1, q.2, q.3) (walked-other w (found-trial d) g.long-at.ensures p.play.ensures.0 q.0.left)
+      | inl q ↦ rw (q.1, q.2, q.3) (walked_better w (found-trial d) g.long-at.ensures p.play.ensures.0 q.0.taken)
+      | inr q ↦ rw (q.1, q.2, q.3) (walked_other w (found-trial d) g.long-at.ensures p.play.ensures.0 q.0.left)
     ]
 
 add-i : tie.Need-overflow-add-i invariant-loop decreases-loop
@@ -81,7 +81,7 @@ best_of_spec =
     (tie.spec invariant-loop decreases-loop (λ c κs. search rules) loop-holds (λ c κs. c.before.loop.invariant.1.within)
     (λ c. search rules) (λ c. search rules) returns (λ c. search rules)
     (λ c. omega (arith, (found-trial c.before).within)) (λ c. omega (arith, (found-trial c.before).within))
-    (λ c κs. omega (arith, (found-trial c.before).within, size-trial (found-trial c.before)))
+    (λ c κs. omega (arith, (found-trial c.before).within, size_trial (found-trial c.before)))
     (λ c. omega (arith, inside c, (found-trial c.before.before).within)) (λ c. omega (arith, inside c))
     (λ c. omega (arith, inside c)) (λ c. omega (arith, (found-trial c.before.before).within)) (λ c κs. search rules)
     add-i (λ c. omega (arith, (turn c).loop-test.true)) (λ c. (omega (arith, (turn c).loop-test.true), again c))

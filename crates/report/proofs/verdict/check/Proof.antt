@@ -14,11 +14,11 @@ use Rattle.command.specs.Settings.{factory}
 use Rattle.command.specs.declared.settings.Settings.{Settings}
 use Rattle.command.specs.Player.{play, offence, end_settings, end_offence, place_of}
 use Rattle.command.proofs.RulesLaws.{kept_factory, in_rule_of}
-use Rattle.command.proofs.PlayerOffences.{earliest-named, stands-there}
+use Rattle.command.proofs.PlayerOffences.{earliest_named, stands_there}
 use Rattle.report.specs.Report.{same_settings}
 use Rattle.report.specs.Inner.{HeadIs, HeadAt, BestIs, BestAt, WinnerIs, WinnerAt}
 use Rattle.report.specs.declared.record.Outcome.{Outcome}
-use Rattle.report.proofs.verdict.Laws.{promised-no, promised-yes, head_no, trials_no, winner-no, ship_in, refused_18, refused-19, accepted-with}
+use Rattle.report.proofs.verdict.Laws.{promised_no, promised_yes, head_no, trials_no, winner_no, ship_in, refused_18, refused_19, accepted_with}
 use Rattle.report.proofs.verdict.check.Statement.{statement}
 use Rattle.report.proofs.verdict.check.Tie as tie
 
@@ -40,8 +40,8 @@ abbrev next_of : tie.After-enum-told3 → tie.After-next
 next_of d = d.before.before.before.before
 
 -- what each of the three calls read
-head-is : (h : tie.After-head) → HeadIs (reportIn (start h)) h.head.given.0.0
-head-is h = subst (HeadAt (reportIn (start h))) h.head.given.1 h.before.before.count_of.ensures
+head_is : (h : tie.After-head) → HeadIs (reportIn (start h)) h.head.given.0.0
+head_is h = subst (HeadAt (reportIn (start h))) h.head.given.1 h.before.before.count_of.ensures
 
 best-is : (n : tie.After-next)
     → let h = head_of n in
@@ -65,7 +65,7 @@ winner-is d =
 room : (d : tie.After-enum-told3)
     → let r = reportIn (start (head_of (next_of d))) in
     ((next_of d).next.given.0.0 + 10 ≤ length r) × (length r ≤ 60000)
-room d = ((winner-is d).within, (head-is (head_of (next_of d))).short)
+room d = ((winner-is d).within, (head_is (head_of (next_of d))).short)
 
 -- the shipping packets, played from factory values
 abbrev ship : tie.After-play → List ℕ
@@ -89,7 +89,7 @@ offends-within : (c : tie.After-offence) → c.offence.given.0.0 < 60000
 offends-within c =
     let q = c.before.before in
     let d = q.before.before.before in
-    let n = (stands-there factory (ship q) _ ((earliest-named factory (ship q) _).0 (offends-at c)).offends).1 in
+    let n = (stands_there factory (ship q) _ ((earliest_named factory (ship q) _).0 (offends-at c)).offends).1 in
     let r = reportIn (start (head_of (next_of d))) in
     let at = (next_of d).next.given.0.0 in
     omega (arith, n, room d, length-take (length r - (at + 6 + 4)) (drop (at + 6 + 4) r), length-drop (at + 6 + 4) r)
@@ -111,7 +111,7 @@ returns c =
     let o = c.before.enum_told.given in
     let k = c.before.before.before in
     let r = reportIn k.before in
-    promised-no r (all-bytes k.before) (head_no r (subst (HeadAt r) o.1 k.count_of.ensures)) c.refused.ensures o.1
+    promised_no r (all-bytes k.before) (head_no r (subst (HeadAt r) o.1 k.count_of.ensures)) c.refused.ensures o.1
 
 returns-2 : tie.Need-returns-2
 returns-2 c =
@@ -120,8 +120,8 @@ returns-2 c =
     let h = t.before.before in
     let r = reportIn (start h) in
     let b = t.best_of.result in
-    promised-no r (all-bytes (start h))
-    (trials_no r (head-is h) (subst (λ (x : Outcome). BestAt r h.head.given.0.0 x b.trial b.score b.settings) o.1 t.best_of.ensures)) c.refused2.ensures o.1
+    promised_no r (all-bytes (start h))
+    (trials_no r (head_is h) (subst (λ (x : Outcome). BestAt r h.head.given.0.0 x b.trial b.score b.settings) o.1 t.best_of.ensures)) c.refused2.ensures o.1
 
 returns-3 : tie.Need-returns-3
 returns-3 c =
@@ -130,8 +130,8 @@ returns-3 c =
     let n = w.before.before in
     let h = head_of n in
     let r = reportIn (start h) in
-    promised-no r (all-bytes (start h))
-    (winner-no r (head-is h) (best-is n) (subst (WinnerAt r n.next.given.0.0 h.head.given.0.0 n.before.before.best_of.result.trial) o.1 w.winner-of.ensures)) c.refused3.ensures o.1
+    promised_no r (all-bytes (start h))
+    (winner_no r (head_is h) (best-is n) (subst (WinnerAt r n.next.given.0.0 h.head.given.0.0 n.before.before.best_of.result.trial) o.1 w.winner-of.ensures)) c.refused3.ensures o.1
 
 returns-4 : tie.Need-returns-4
 returns-4 c =
@@ -142,7 +142,7 @@ returns-4 c =
     let h = head_of n in
     let r = reportIn (start h) in
     let ten : n.next.given.0.0 + 6 + 4 ≡ n.next.given.0.0 + 10 = omega arith in
-    promised-no r (all-bytes (start h)) (refused_18 r (head-is h) (best-is n) (winner-is d) (offends-at o)) c.refused4.ensures (rw ten at c.before.refusal.ensures)
+    promised_no r (all-bytes (start h)) (refused_18 r (head_is h) (best-is n) (winner-is d) (offends-at o)) c.refused4.ensures (rw ten at c.before.refusal.ensures)
 
 returns-5 : tie.Need-returns-5
 returns-5 c =
@@ -152,7 +152,7 @@ returns-5 c =
     let n = next_of d in
     let h = head_of n in
     let r = reportIn (start h) in
-    promised-no r (all-bytes (start h)) (refused-19 r (head-is h) (best-is n) (winner-is d) (clean-yes i) (compared m ∙ not-true m.same-settings.result c.before.before.if1.true))
+    promised_no r (all-bytes (start h)) (refused_19 r (head_is h) (best-is n) (winner-is d) (clean-yes i) (compared m ∙ not-true m.same-settings.result c.before.before.if1.true))
     c.refused5.ensures c.before.refusal2.ensures
 
 returns-6 : tie.Need-returns-6
@@ -163,13 +163,13 @@ returns-6 c =
     let n = next_of d in
     let h = head_of n in
     let r = reportIn (start h) in
-    promised-yes r (all-bytes (start h)) (accepted-with r (head-is h) (best-is n) (winner-is d) (clean-yes i) (compared m ∙ not_false m.same-settings.result c.if1.false)) d.enum-told3.given.1
+    promised_yes r (all-bytes (start h)) (accepted_with r (head_is h) (best-is n) (winner-is d) (clean-yes i) (compared m ∙ not_false m.same-settings.result c.if1.false)) d.enum-told3.given.1
 
 pub check_spec : {M : Type 1} → statement M
 check_spec =
     tie.close
     (tie.spec (λ c κs. search rules) (λ c. search rules) (λ c. search rules) (λ c κs. search rules) returns
-    (λ c κs. ((head-is c.before).within, (head-is c.before).some)) (λ c. search rules) (λ c. search rules) (λ c κs. search rules) returns-2 (λ c κs. (best-is c.before).within)
+    (λ c κs. ((head_is c.before).within, (head_is c.before).some)) (λ c. search rules) (λ c. search rules) (λ c κs. search rules) returns-2 (λ c κs. (best-is c.before).within)
     (λ c. search rules) (λ c. search rules) (λ c κs. search rules) returns-3 (λ c. omega (arith, room c)) (λ c. omega (arith, room c))
     (λ c κs. search rules) (λ c. omega (arith, room c.before))
     (λ c. omega (arith, room c.before)) (λ c. search rules) (λ c κs. search rules)

@@ -1,0 +1,12 @@
+-- The loop of `store`: the stores that are left make the same run.
+use Rattle.std.proofs.Common.{◌≡◌, ◌+◌, ◌-◌, ◌≤◌, min, length, drop}
+use Rattle.std.proofs.lemmas.List.Edits.{sets}
+use Rattle.packet.proofs.bytes.store.Given as goal
+
+abbrev pub invariant_loop_i : goal.invariant_loop_i
+invariant_loop_i l =
+    (l.i ≤ l.n) × (l.n ≡ min (length l.initial.into - l.at) (length l.b)) × (length l.into ≡ length l.initial.into)
+        × (sets l.initial.into l.at l.b ≡ sets l.into (l.at + l.i) (drop l.i l.b))
+
+abbrev pub decreases_loop_i : goal.decreases_loop_i
+decreases_loop_i l = l.n - l.i

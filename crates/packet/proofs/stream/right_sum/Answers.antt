@@ -1,0 +1,8 @@
+-- `right_sum` meets its contract.
+use Rattle.std.proofs.Common.{zero-add}
+use Rattle.packet.specs.Packet.{checksum}
+use Rattle.packet.proofs.stream.right_sum.Goals as goal
+
+pub returns : goal.returns
+unfolding checksum
+returns c = rw (c.sum_with.ensures, zero-add)
