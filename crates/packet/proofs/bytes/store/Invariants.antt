@@ -3,10 +3,10 @@ use Rattle.std.proofs.Common.{◌≡◌, ◌+◌, ◌-◌, ◌≤◌, min, lengt
 use Rattle.std.proofs.lemmas.List.Edits.{sets}
 use Rattle.packet.proofs.bytes.store.Given as goal
 
-abbrev pub invariant_loop_i : goal.invariant_loop_i
-invariant_loop_i l =
+abbrev pub invariant-loop-i : goal.invariant-loop-i
+invariant-loop-i l =
     (l.i ≤ l.n) × (l.n ≡ min (length l.initial.into - l.at) (length l.b)) × (length l.into ≡ length l.initial.into)
-        × (sets l.initial.into l.at l.b ≡ sets l.into (l.at + l.i) (drop l.i l.b))
+    × (sets l.initial.into l.at l.b ≡ sets l.into (l.at + l.i) (drop l.i l.b))
 
-abbrev pub decreases_loop_i : goal.decreases_loop_i
-decreases_loop_i l = l.n - l.i
+abbrev pub decreases-loop-i : goal.decreases-loop-i
+decreases-loop-i l = l.n - l.i

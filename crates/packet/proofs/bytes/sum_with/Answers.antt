@@ -8,9 +8,9 @@ none_left : (s i : ℕ) (b : List ℕ) → length b ≤ i → s < 256 → s ≡ 
 unfolding sum_of
 none_left s i b h l = rw (drop_of_length-le b {i = i} h) (omega (arith, l))
 
-pub loop_i_preserved : goal.loop_i_preserved
-loop_i_preserved c =
-    let s = c.wrapping_add_u8.ensures in (
+pub loop-i-preserved : goal.loop-i-preserved
+loop-i-preserved c =
+    let s = c.wrapping_add_u8-sum.ensures.value in (
       omega arith,
       c.loop-i.invariant.1 ∙ rw s (sym (sum_more c.args.b.now c.loop-i.sum c.loop-i.i (omega arith))),
       rw s (omega arith),

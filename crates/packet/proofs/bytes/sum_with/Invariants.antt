@@ -3,9 +3,9 @@ use Rattle.std.proofs.Common.{◌≡◌, ◌+◌, ◌-◌, ◌%◌, ◌<◌, ◌
 use Rattle.packet.specs.Packet.{sum as sum_of}
 use Rattle.packet.proofs.bytes.sum_with.Given as goal
 
-abbrev pub invariant_loop_i : goal.invariant_loop_i
-invariant_loop_i l =
+abbrev pub invariant-loop-i : goal.invariant-loop-i
+invariant-loop-i l =
     (l.i ≤ length l.b) × ((l.from + sum_of l.b) % 256 ≡ (l.sum + sum_of (drop l.i l.b)) % 256) × (l.sum < 256)
 
-abbrev pub decreases_loop_i : goal.decreases_loop_i
-decreases_loop_i l = length l.b - l.i
+abbrev pub decreases-loop-i : goal.decreases-loop-i
+decreases-loop-i l = length l.b - l.i

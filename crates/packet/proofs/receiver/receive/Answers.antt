@@ -1,20 +1,28 @@
 -- `receive` meets its contract.
 use Rattle.std.proofs.Common.{◌≡◌, ℕ, ◌+◌, ◌-◌, length, ap, ◌∙◌, arith, rules}
 use Rattle.packet.specs.Packet.{payload_length}
-use Rattle.packet.specs.Receiver.{receiver_of}
+use Rattle.packet.specs.Receiver.{Receiver, receiver_of}
 use Rattle.packet.proofs.receiver.Steps.{receive_completes, receive_waits}
 use Rattle.packet.proofs.receiver.receive.Goals as goal
 
-pub returns_then_before_input : goal.returns_then_before_input
-returns_then_before_input c =
+pub returns-then-before-input : goal.returns-then-before-input
+returns-then-before-input c =
     let a = c.args in
     let came = receiver_of a.header.now a.sum a.received a.hold.now in
     let six : length a.header.now ≡ 6 = search rules in
     let before = c.less-before.ensures ∙ ap (λ (n : ℕ). 6 + n - a.received) c.word.ensures.0 in (
-      receive_completes a.first came a.input.now six c.store.ensures before c.least-n.ensures c.running_sum.ensures
+      receive_completes a.first came a.input.now six c.store.ensures before c.least-n.ensures c.running_sum-total.ensures
           c.keep.ensures c.if-before-input.true,
       omega arith,
     )
 
 pub returns : goal.returns
-returns c = ?
+returns c =
+    let a = c.args in
+    let came = receiver_of a.header.now a.sum a.received a.hold.now in
+    let six : length a.header.now ≡ 6 = search rules in
+    let before = c.less-before.ensures ∙ ap (λ (n : ℕ). 6 + n - a.received) c.word.ensures.0 in (
+      receive_waits a.first came a.input.now six c.store.ensures before c.least-n.ensures c.running_sum-total.ensures
+          c.keep.ensures c.if-before-input.false,
+      omega (arith, c.less-before.ensures, c.word.ensures.1, c.least-n.ensures),
+    )

@@ -7,17 +7,17 @@ use Rattle.packet.proofs.receiver.running_sum.Goals as goal
 covered : (b : List ℕ) (n m : ℕ) → n ≡ m → take (length b - n) (drop n b) ≡ drop m b
 covered b n m e = rw e (take_all (length b - m) (drop m b) (omega (arith, length-drop m b)))
 
-pub returns_then_b_skip : goal.returns_then_b_skip
-returns_then_b_skip c =
-    let a = c.args in running_stays a.first a.received a.sum a.b.now (omega (arith, c.less.ensures))
+pub returns-then-b-skip : goal.returns-then-b-skip
+returns-then-b-skip c =
+    let a = c.args in running_stays a.first a.received a.sum a.b.now (omega (arith, c.less-skip.ensures))
 
-pub returns_then_received_first : goal.returns_then_received_first
-returns_then_received_first c =
+pub returns-then-received-first : goal.returns-then-received-first
+returns-then-received-first c =
     let a = c.args in
     c.sum_with.ensures
-    ∙ running_anew a.first a.received a.sum a.b.now (omega (arith, c.less.ensures)) (omega arith) (covered a.b.now _ _ c.less.ensures)
+    ∙ running_anew a.first a.received a.sum a.b.now (omega (arith, c.less-skip.ensures)) (omega arith) (covered a.b.now _ _ c.less-skip.ensures)
 
 pub returns : goal.returns
 returns c =
     let a = c.args in
-    c.sum_with-2.ensures ∙ running_on a.first a.received a.sum a.b.now (omega (arith, c.less.ensures)) (omega arith)
+    c.sum_with-2.ensures ∙ running_on a.first a.received a.sum a.b.now (omega (arith, c.less-skip.ensures)) (omega arith)

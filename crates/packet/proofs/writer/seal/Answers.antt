@@ -5,4 +5,4 @@ use Rattle.packet.proofs.writer.seal.Goals as goal
 
 pub returns : goal.returns
 unfolding checksum
-returns c = rw (c.sum_with.ensures, zero-add)
+returns c = rw (c.sum_with-sum.ensures, zero-add)

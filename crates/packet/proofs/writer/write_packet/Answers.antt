@@ -5,13 +5,13 @@ use Rattle.packet.specs.Packet.{header, packet_of}
 use Rattle.packet.proofs.writer.Laws.{too_long, no_room, has_room, sealed_front}
 use Rattle.packet.proofs.writer.write_packet.Goals as goal
 
-pub returns_then_n_gt_PAYLOAD_MAX : goal.returns_then_n_gt_PAYLOAD_MAX
-returns_then_n_gt_PAYLOAD_MAX c =
+pub returns-then-n-gt-PAYLOAD_MAX : goal.returns-then-n-gt-PAYLOAD_MAX
+returns-then-n-gt-PAYLOAD_MAX c =
     let e = too_long (length c.args.out.now) c.args.payload.now c.if-n-gt-PAYLOAD_MAX.true in
     (rw e, rw e)
 
-pub returns_then_out_n : goal.returns_then_out_n
-returns_then_out_n c =
+pub returns-then-out-n : goal.returns-then-out-n
+returns-then-out-n c =
     let e = no_room (length c.args.out.now) c.args.payload.now c.if-out-n.true in
     (rw e, rw e)
 
