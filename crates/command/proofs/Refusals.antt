@@ -7,7 +7,7 @@ use mathlib.Core.List.{List, [], ◌∷◌}
 use native.Mathlib.Omega.{arith}
 use lib.Dec.{eqb, ltb, leb}
 use lib.ListN.{length}
-use borrow.Author.Tests.{le-ltb, lt-leb, leb-false, ltb-true, ltb-false, ne_eqb, eqb-true, eqb-false, not-true, not_false}
+use borrow.Author.Tests.{le-ltb, lt-leb, leb-false, ltb-true, ltb-false, ne_eqb, eqb-true, eqb-false, not-true, not-false}
 use Rattle.packet.specs.Packet.{payload_length}
 use Rattle.packet.specs.Answer.{Refuses, Waits, Answers, Answering}
 use Rattle.packet.specs.Receiver.{packet_in_rule}
@@ -43,7 +43,7 @@ settings_out s = (forth, back)
         unfold settings_in_rule blocked in
         and_cases (all_allowed s table) (not (eqb s.run 1 && not (eqb s.mode 4))) (one_not_allowed s table)
         (λ n.
-        let r = not_false _ n in
+        let r = not-false _ n in
         RunsOutsideMode (eqb-true s.run 1 (and_left _ _ r)) (eqb-false s.mode 4 (not-true _ (and_right (eqb s.run 1) _ r))))
         h
 

@@ -12,7 +12,7 @@ use packet::HEADER;
 // The packet that is coming in, and the open transfer, but for their bytes. Each field is as wide as
 // the room up to the next one: a record that is lent has no holes.
 #[repr(C)]
-#[derive(Drop)]
+#[derive(Clone, Copy)]
 pub struct Registers {
     // How many bytes of the packet have come in.
     pub received: u32,
@@ -56,7 +56,7 @@ impl Registers {
 }
 
 #[repr(C)]
-#[derive(Drop)]
+#[derive(Clone, Copy)]
 pub struct Controller {
     pub settings: Settings,
     pub registers: Registers,

@@ -31,7 +31,7 @@ pub(crate) fn long_at(d: &[u8], at: usize) -> u32
 pub(crate) const ROOM: usize = 17;
 
 // Data that are put together: the first `count` bytes are theirs.
-#[derive(Drop)]
+#[derive(Clone, Copy)]
 pub(crate) struct Data {
     pub(crate) bytes: [u8; ROOM],
     pub(crate) count: usize,

@@ -31,7 +31,7 @@ fn has_bit(mask: u16, code: u16) -> bool
 // The error codes, by the names that the command guide gives them: which of them hold; and with 03 the byte
 // that is wrong, which is reported beside the codes. No packet draws 01, 05, 06 or 08 in this build; a
 // judgement that is handed in may have them.
-#[derive(Drop)]
+#[derive(Clone, Copy)]
 pub(crate) struct Codes {
     // 01
     pub failure: bool,

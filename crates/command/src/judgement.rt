@@ -16,7 +16,7 @@ use crate::transfer::TransferState;
 use crate::value::{Parsed, Value, parse};
 use packet::HEADER;
 
-#[derive(Drop)]
+#[derive(Clone, Copy)]
 pub(crate) enum Judgement {
     // An error packet with these codes.
     Error(Codes),

@@ -15,7 +15,7 @@ use packet::{HEADER, Next, next_packet};
 
 // Where bytes that are played offend: the earliest of the first packet that is not acknowledged, the
 // unfinished packet, and the packet that opened the transfer left open.
-#[derive(Drop)]
+#[derive(Clone, Copy)]
 pub enum Offence {
     // The place of its first byte; 0 where the settings are out of rule, and nothing is played.
     At(usize),

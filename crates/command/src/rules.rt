@@ -17,7 +17,7 @@ use crate::settings::{
 use crate::value::Value;
 
 // The byte of a command's data with which the first field begins that is not allowed.
-#[derive(Drop)]
+#[derive(Clone, Copy)]
 pub enum WrongByte {
     // Its number, from 0.
     At(u8),
@@ -188,7 +188,7 @@ fn video_input(q: VideoInput) -> WrongByte
 }
 
 // An entry of Table 10, X × Y.
-#[derive(Drop)]
+#[derive(Clone, Copy)]
 struct Resolution {
     x: u16,
     y: u16,

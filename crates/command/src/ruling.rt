@@ -23,7 +23,7 @@ pub const NO_WRONG_BYTE: u16 = 0xFFFF;
 
 // What a packet was judged under: the display mode, and the open transfer, none where `active` is 0.
 #[repr(C)]
-#[derive(Drop)]
+#[derive(Clone, Copy)]
 pub struct Kept {
     // How many bytes of the transfer were held: the first of the data.
     pub held: u16,
@@ -62,7 +62,7 @@ impl Kept {
 // The numbers of a judgement. Each field is as wide as the room up to the next one: a record that is
 // lent has no holes.
 #[repr(C)]
-#[derive(Drop)]
+#[derive(Clone, Copy)]
 pub struct Ruling {
     // The error codes, bit n for code n; 0 where the packet has no fault.
     pub codes: u16,
@@ -98,7 +98,7 @@ impl Ruling {
 }
 
 #[repr(C)]
-#[derive(Drop)]
+#[derive(Clone, Copy)]
 pub struct JudgementRecord {
     pub ruling: Ruling,
     // The joined data: those that were held, and behind them those that the packet brings.

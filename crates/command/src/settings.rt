@@ -11,17 +11,17 @@ pub(crate) const PATTERN_SEQUENCE_MODE: u8 = 4;
 
 // LED drive, in counts.
 #[repr(C)]
-#[derive(Drop)]
+#[derive(Clone, Copy)]
 pub struct Drive(pub u16);
 
 // A time, in microseconds.
 #[repr(C)]
-#[derive(Drop)]
+#[derive(Clone, Copy)]
 pub struct Microseconds(pub u32);
 
 // 01 04
 #[repr(C)]
-#[derive(Drop)]
+#[derive(Clone, Copy)]
 pub struct LedCurrent {
     pub red: Drive,
     pub green: Drive,
@@ -30,7 +30,7 @@ pub struct LedCurrent {
 
 // 01 06; the last byte is 0.
 #[repr(C)]
-#[derive(Drop)]
+#[derive(Clone, Copy)]
 pub struct StaticColour {
     pub blue: u8,
     pub green: u8,
@@ -40,7 +40,7 @@ pub struct StaticColour {
 
 // 01 07
 #[repr(C)]
-#[derive(Drop)]
+#[derive(Clone, Copy)]
 pub struct DisplaySetting {
     pub long: u8,
     pub short: u8,
@@ -49,7 +49,7 @@ pub struct DisplaySetting {
 
 // 02 00
 #[repr(C)]
-#[derive(Drop)]
+#[derive(Clone, Copy)]
 pub struct VideoInput {
     pub x: u16,
     pub y: u16,
@@ -61,7 +61,7 @@ pub struct VideoInput {
 
 // 02 01
 #[repr(C)]
-#[derive(Drop)]
+#[derive(Clone, Copy)]
 pub struct VideoMode {
     pub rate: u8,
     pub depth: u8,
@@ -70,7 +70,7 @@ pub struct VideoMode {
 
 // 04 00
 #[repr(C)]
-#[derive(Drop)]
+#[derive(Clone, Copy)]
 pub struct PatternSequence {
     pub depth: u8,
     pub count: u8,
@@ -85,7 +85,7 @@ pub struct PatternSequence {
 // The values of every command in the table. Each field, here and in the parts, is as wide as the room
 // up to the next one: a record that is lent has no holes.
 #[repr(C)]
-#[derive(Drop)]
+#[derive(Clone, Copy)]
 pub struct Settings {
     // 01 01 display mode
     pub mode: u8,

@@ -3,7 +3,7 @@ ghost use Rattle.std.specs.Prelude.{◌≡◌};
 ghost use Rattle.command.specs.Inner.{total, command_at};
 ghost use Rattle.command.specs.Table.{is_known, can_read, cmd1_for, cmd2_for, command_of, layout};
 
-#[derive(Drop)]
+#[derive(Clone, Copy)]
 pub enum Command {
     DisplayMode,
     TestPattern,
@@ -17,14 +17,14 @@ pub enum Command {
 }
 
 // The command of two bytes, if it is in the table.
-#[derive(Drop)]
+#[derive(Clone, Copy)]
 pub enum Found {
     Known(Command),
     Unknown,
 }
 
 // A command's bytes.
-#[derive(Drop)]
+#[derive(Clone, Copy)]
 pub(crate) struct Code {
     pub(crate) cmd1: u8,
     pub(crate) cmd2: u8,

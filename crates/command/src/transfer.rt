@@ -9,7 +9,7 @@ pub const HOLD: usize = 1024;
 
 // An open transfer: its command's bytes, and how many bytes of it are held. None is open where
 // `active` is 0.
-#[derive(Drop)]
+#[derive(Clone, Copy)]
 pub struct TransferState {
     pub active: u8,
     pub cmd1: u8,

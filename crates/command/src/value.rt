@@ -13,7 +13,7 @@ use crate::settings::{
 };
 use crate::table::Command;
 
-#[derive(Drop)]
+#[derive(Clone, Copy)]
 pub enum Value {
     DisplayMode(u8),
     TestPattern(u8),
@@ -27,7 +27,7 @@ pub enum Value {
 }
 
 // What reading a command's data finds.
-#[derive(Drop)]
+#[derive(Clone, Copy)]
 pub(crate) enum Parsed {
     Values(Value),
     // They have not the command's size.

@@ -9,7 +9,7 @@ use mathlib.Core.Option.{Option, none, some}
 use native.Mathlib.Omega.{arith}
 use lib.Dec.{eqb}
 use lib.ListN.{length}
-use borrow.Author.Tests.{lt-ltb, le-ltb, eq-eqb, eqb-true, not_false}
+use borrow.Author.Tests.{lt-ltb, le-ltb, eq-eqb, eqb-true, not-false}
 use Rattle.packet.proofs.Cases.{bool_cases, cond_cases, and_left, and_right, and_both, and_cases, lt_cases, never}
 use Rattle.packet.specs.Stream.{size, has_packet}
 use Rattle.packet.proofs.StreamLaws.{seven}
@@ -163,7 +163,7 @@ module _ (j : JudgementRecord) (m : Made j) where
   not_forged = (
     λ h. unfold forged in
         and_cases (is_nil (codes_in (meant j))) (not (drawable j))
-        (λ e. inl (λ u. never (sym e ∙ (nil_test (codes_in (meant j))).1 u))) (λ e. inr (found_drawn j m (not_false _ e))) h,
+        (λ e. inl (λ u. never (sym e ∙ (nil_test (codes_in (meant j))).1 u))) (λ e. inr (found_drawn j m (not-false _ e))) h,
     ⊎_elim (λ n. bool_cases (forged j) (λ f. absurd (n (forged_uncoded j f))) (λ f. f)) (drawn_genuine j),
   )
 

@@ -8,7 +8,7 @@ use native.Mathlib.Omega.{arith}
 use lib.Dec.{eqb, leb}
 use lib.ListN.{length, length-take, length-drop}
 use lib.Seq.{length-sets}
-use borrow.Author.Tests.{lt-ltb, leb-true, not-true, not_false}
+use borrow.Author.Tests.{lt-ltb, leb-true, not-true, not-false}
 use Rattle.packet.specs.Calls.{served_one, joined}
 use Rattle.packet.specs.Packet.{payload_length}
 use Rattle.packet.specs.Receiver.{Receiver, with, waiting as receiverWaiting, packet_in_rule}
@@ -117,7 +117,7 @@ module _ (j : JudgementRecord) where
   unfolding forged meant
   meant_may h =
       cond_cases Claim (eqb j.ruling.codes 0) (λ _. accepted_may (command_for j) refl) (λ _ _. (tt, tt))
-      (λ u. not_false (drawable j) (sym (ap (λ b. b && not (drawable j)) u) ∙ h))
+      (λ u. not-false (drawable j) (sym (ap (λ b. b && not (drawable j)) u) ∙ h))
 
 -- A controller in rule stays so.
 pub rule_stays : (c : Controller) (j : JudgementRecord) (out : List ℕ) → Ready c → Ready (carry_call c j out).controller

@@ -9,7 +9,7 @@ use native.Mathlib.Omega.{arith}
 use lib.Dec.{eqb, ltb, leb}
 use lib.ListN.{length, take, drop, get_or}
 use lib.Seq.{drop-cons, length-take-le, take-add, drop_at}
-use borrow.Author.Tests.{eqb-true, leb-true, le-ltb, not_false}
+use borrow.Author.Tests.{eqb-true, leb-true, le-ltb, not-false}
 use Rattle.packet.proofs.Cases.{bool_cases, and_left, and_right}
 use Rattle.command.specs.Table.{command_of, layout, size_of}
 use Rattle.command.specs.Rules.{allowed, blocked}
@@ -210,7 +210,7 @@ module _
       let a = acceptable (command_for (record_of n d)) (record_of n d) in
       in_rule_lem n
       (and_left (ruling_in_rule n) a
-      (and_right (eqb n.codes 0) (ruling_in_rule n && a) (sym (drawable_is n d) ∙ not_false (drawable (record_of n d)) (rw e at f))))
+      (and_right (eqb n.codes 0) (ruling_in_rule n && a) (sym (drawable_is n d) ∙ not-false (drawable (record_of n d)) (rw e at f))))
 
   -- what the code leaves is what the call leaves
   pub carries_is : {p : Performed} {buffer' out' out : List ℕ} → Carries p buffer' out' s r buffer n d (meant (record_of n d)) out

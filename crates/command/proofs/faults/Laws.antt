@@ -8,7 +8,7 @@ use mathlib.Core.List.{List, [], ◌∷◌, Memᴰ}
 use native.Mathlib.Omega.{arith}
 use lib.Dec.{eqb, ltb}
 use lib.ListN.{length}
-use borrow.Author.Tests.{lt-ltb, ltb-true, eq-eqb, ne_eqb, eqb-true, eqb-false, not-true, not_false}
+use borrow.Author.Tests.{lt-ltb, ltb-true, eq-eqb, ne_eqb, eqb-true, eqb-false, not-true, not-false}
 use Rattle.packet.specs.Packet.{host_write, host_read, whole, beginning, intermediate, last, checksum}
 use Rattle.packet.proofs.Cases.{bool_cases, and_left, and_right, and_both, or_left, or_right, or_cases, or_that, never}
 use Rattle.command.specs.Table.{cmd1_for, cmd2_for, command_of, same, readable}
@@ -197,7 +197,7 @@ module _ (t : Transfer) (p : Arrived) where
       UnknownType (eqb-false p.type host_write (or_left _ _ n)) (eqb-false p.type host_read (or_right (eqb p.type host_write) _ n)))
       never)
       (λ h.
-      let colour : c ≡ StaticColour = same_eq c StaticColour (not_false _ (not-true _ (and_right (eqb p.type host_read) _ h))) in
+      let colour : c ≡ StaticColour = same_eq c StaticColour (not-false _ (not-true _ (and_right (eqb p.type host_read) _ h))) in
       let code : Names p.cmd1 p.cmd2 StaticColour = rw colour at (known_code p.cmd1 p.cmd2 c e) in
       ColourRead (eqb-true p.type host_read (and_left _ (not (readable c)) h)) code.0 code.1)
       h

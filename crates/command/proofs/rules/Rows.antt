@@ -6,7 +6,7 @@ use mathlib.Core.Bool.{Bool, true, false, not, ◌&&◌, and-false}
 use mathlib.Core.List.{List, [], ◌∷◌}
 use native.Mathlib.Omega.{arith}
 use lib.Dec.{eqb, leb}
-use borrow.Author.Tests.{eqb-false, ne_eqb, le-leb, lt-leb, not-true, not_false}
+use borrow.Author.Tests.{eqb-false, ne_eqb, le-leb, lt-leb, not-true, not-false}
 use Rattle.packet.proofs.Cases.{lt_cases, and_both, or_left, or_right}
 use Rattle.command.specs.Rules.{one_of, within}
 
@@ -58,7 +58,7 @@ pub wrong_row : {t A : Bool} → t ≡ A → not t ≡ true → A ≡ false
 wrong_row {t} e f = sym e ∙ not-true t f
 
 pub right_row : {t A : Bool} → t ≡ A → not t ≡ false → A ≡ true
-right_row {t} e f = sym e ∙ not_false t f
+right_row {t} e f = sym e ∙ not-false t f
 
 -- Where one test follows another by `&&`: t is what the tests before say, whose rule is A, and f what comes out. On one way t holds and the next test decides, by its rule B; on the other t fails and stands.
 pub meets : {t f A B : Bool} {X Y : Type 0} → t ≡ A → (X → (t ≡ true) × (f ≡ B)) → (Y → (t ≡ false) × (f ≡ t)) → X ⊎ Y → f ≡ (A && B)

@@ -7,7 +7,7 @@ use native.Mathlib.Omega.{arith}
 use lib.Dec.{eqb, ltb, leb}
 use lib.ListN.{length, take}
 use lib.Seq.{length-take-le}
-use borrow.Author.Tests.{eq-eqb, ne_eqb, eqb-true, eqb-false, ltb-false, leb-true, not_false}
+use borrow.Author.Tests.{eq-eqb, ne_eqb, eqb-true, eqb-false, ltb-false, leb-true, not-false}
 use Rattle.packet.specs.Packet.{host_write, host_read, whole, beginning, intermediate, last}
 use Rattle.packet.proofs.Cases.{bool_cases, and_left, and_right, or_left, or_right}
 use Rattle.command.specs.Table.{cmd1_for, cmd2_for, has_code, command_of, is_known, same, readable}
@@ -40,7 +40,7 @@ unfolding any_fault faults faults_of
 faultless f t p h =
     let n =
     none_of_four (wrong_command f p.type) (too_long (is_open t) (length (held t)) p.flags p.size) (not p.right) (wrong_order (is_open t) (open_for f t) p.type p.flags) h in
-    record { command = n.0; memory = n.1; checksum = not_false p.right n.2; continuation = n.3 }
+    record { command = n.0; memory = n.1; checksum = not-false p.right n.2; continuation = n.3 }
 
 -- flags that are in order, by the four parts of the rule
 order_parts : (opened ours : Bool) (type flags : ℕ) → wrong_order opened ours type flags ≡ false
@@ -73,7 +73,7 @@ continues_open o type flags h =
 -- and are of its own command
 own_command : (o : Bool) (type flags : ℕ) → wrong_order true o type flags ≡ false → o ≡ true
 own_command o type flags h =
-    not_false o (sym (ap (λ (b : Bool). b && not o) (continues_open o type flags h)) ∙ (order_parts true o type flags h).2)
+    not-false o (sym (ap (λ (b : Bool). b && not o) (continues_open o type flags h)) ∙ (order_parts true o type flags h).2)
 
 pub in_order_lem : (c : Command) (t : Transfer) (p : Arrived) → any_fault (faults (Known c) t p) ≡ false → (not (is_open t) || open_for (Known c) t) ≡ true
 in_order_lem c t p h = go t (faultless (Known c) t p h).continuation
@@ -91,8 +91,8 @@ reads_alone c t p h r =
     let e : p.type ≡ host_read = eqb-true p.type host_read r in
     let n = order_parts (is_open t) (open_for (Known c) t) host_read p.flags (rw e at k.continuation) in
     let w : wrong_command (Known c) host_read ≡ false = rw e at k.command in (
-      sym (ap (λ (b : Bool). (b || eqb p.flags beginning) && is_open t) (not_false (eqb p.flags whole) n.1)) ∙ n.3,
-      not_false (readable c) w,
+      sym (ap (λ (b : Bool). (b || eqb p.flags beginning) && is_open t) (not-false (eqb p.flags whole) n.1)) ∙ n.3,
+      not-false (readable c) w,
     )
 
 -- the held bytes and the payload fit the hold

@@ -1,6 +1,6 @@
 -- What a judgement says of its packet, and what it keeps.
 use Rattle.std.proofs.Common.{◌≡◌, ℕ, suc, ◌+◌, ◌*◌, true, false, not, ◌&&◌, ◌||◌, eqb, leb, List, ◌∷◌, get_or, sym, refl, ap, ◌∙◌, arith, eqb-true}
-use borrow.Author.Tests.{not_false}
+use borrow.Author.Tests.{not-false}
 use lib.Count.{ones_in, ones}
 use Rattle.packet.specs.Number.{bytes_of}
 use Rattle.packet.specs.Packet.{payload}
@@ -69,7 +69,7 @@ done_faultless p c =
 
 right_cmd1 : (c : Command) (n : ℕ) → wrong_cmd1 (Known c) n ≡ false → n ≡ cmd1_for c
 unfolding wrong_cmd1
-right_cmd1 c n h = eqb-true n (cmd1_for c) (not_false (eqb n (cmd1_for c)) (or_right (not (eqb n write) && not (eqb n read)) (not (eqb n (cmd1_for c))) h))
+right_cmd1 c n h = eqb-true n (cmd1_for c) (not-false (eqb n (cmd1_for c)) (or_right (not (eqb n write) && not (eqb n read)) (not (eqb n (cmd1_for c))) h))
 
 -- and CMD1 is the command's
 pub done_cmd1 : (p : Arrived) (c : Command) → judge p ≡ Done c → p.cmd1 ≡ cmd1_for c

@@ -139,9 +139,9 @@ record Headed (r : List ℕ) (n : ℕ) : Type 0 where
   some : 0 < n
   few : n < 65536
 
-not_false : (t : Bool) → not t ≡ false → t ≡ true
-not_false true e = refl
-not_false false e = sym e
+not-false : (t : Bool) → not t ≡ false → t ≡ true
+not-false true e = refl
+not-false false e = sym e
 
 reading_head : (r : List ℕ) → Bytes r → Ends (Refusal r) (Headed r) (read_head r)
 unfolding read_head
@@ -158,7 +158,7 @@ reading_head r b =
     let joined : r ≡ record_of 1 (bytes_of 2 v ++ bytes_of 2 n) ++ h.left = c.joined ∙ ap (λ (x : List ℕ). record_of 1 x ++ h.left) parts in
     needs_equal 14 0 _ _ (λ e. Later 14 0 short (F14 v n h.left joined version.1 e)) λ v1.
     let head : r ≡ head_of n ++ h.left = joined ∙ ap (λ (x : ℕ). record_of 1 (bytes_of 2 x ++ bytes_of 2 n) ++ h.left) v1 in
-    needs 15 0 _ (λ e. Later 15 0 short (F15 h.left (head ∙ ap (λ (x : ℕ). head_of x ++ h.left) (eqb-true n 0 (not_false (eqb n 0) e))))) λ z.
+    needs 15 0 _ (λ e. Later 15 0 short (F15 h.left (head ∙ ap (λ (x : ℕ). head_of x ++ h.left) (eqb-true n 0 (not-false (eqb n 0) e))))) λ z.
     let eight : length (head_of n) ≡ 8 = length_record 1 (bytes_of 2 1 ++ bytes_of 2 n) ∙ ap (λ (x : List ℕ). 4 + length x) (sym (parts ∙ ap (λ (x : ℕ). bytes_of 2 x ++ bytes_of 2 n) v1)) ∙ ap (λ (x : ℕ). 4 + x) four in
     let left : drop 8 r ≡ h.left = ap (drop 8) head ∙ drop_at (head_of n) h.left 8 eight in
     good

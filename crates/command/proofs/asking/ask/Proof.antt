@@ -7,7 +7,7 @@ use native.Mathlib.Omega.{arith}
 use lib.ListN.{length, take, drop}
 use lib.Seq.{length-take-le}
 use borrow.Author.Rules.{rules}
-use borrow.Author.Tests.{not-true, not_false, ne_eqb}
+use borrow.Author.Tests.{not-true, not-false, ne_eqb}
 use Rattle.packet.specs.Packet.{payload, payload_length, right_sum}
 use Rattle.packet.specs.Stream.{size, has_packet}
 use Rattle.packet.proofs.NumberLaws.{bytes_at}
@@ -42,7 +42,7 @@ returns c =
 
 -- past it the controller is in rule
 in_rule_lem : (e : tie.Else1) → let s = start e.before in parts_in_rule s.args.settings s.args.r ≡ true
-in_rule_lem e = sym e.before.in_rule_lem.ensures ∙ not_false e.before.in_rule_lem.result e.if1.false
+in_rule_lem e = sym e.before.in_rule_lem.ensures ∙ not-false e.before.in_rule_lem.result e.if1.false
 
 -- refusal 5: no packet begins there,
 none-there : (b : List ℕ) → has_packet b ≡ false → one_packet b ≡ false

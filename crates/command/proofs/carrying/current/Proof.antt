@@ -6,7 +6,7 @@ use lib.Dec.{eqb}
 use lib.ListN.{length, take}
 use lib.Seq.{length-take-le}
 use borrow.Author.Rules.{rules}
-use borrow.Author.Tests.{eq-eqb, ne_eqb, not-true, not_false}
+use borrow.Author.Tests.{eq-eqb, ne_eqb, not-true, not-false}
 use Rattle.command.specs.Controller.{held_in}
 use Rattle.command.specs.Data.{same_list}
 use Rattle.command.specs.Ruling.{items_in, same_items, transfer_of_kept}
@@ -59,7 +59,7 @@ returns-3 : tie.Need-returns-3
 returns-3 c =
     let h = c.before.before.before in
     let m = h.before.before in
-    c.same_bytes.ensures ∙ rw h.held.ensures (sym (numbers m (not_false m.same_transfer.result h.before.if2.false)))
+    c.same_bytes.ensures ∙ rw h.held.ensures (sym (numbers m (not-false m.same_transfer.result h.before.if2.false)))
 
 pub current_spec : {M : Type 1} → statement M
 current_spec =

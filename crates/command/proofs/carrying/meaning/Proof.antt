@@ -3,7 +3,7 @@ use mathlib.Core.Path.{◌≡◌, sym, ◌∙◌}
 use mathlib.Core.Bool.{Bool, true, cond}
 use mathlib.Core.Option.{none, some}
 use borrow.Author.Rules.{rules}
-use borrow.Author.Tests.{eq-eqb, ne_eqb, not-true, not_false}
+use borrow.Author.Tests.{eq-eqb, ne_eqb, not-true, not-false}
 use Rattle.command.specs.Lent.{record_of}
 use Rattle.command.specs.Inner.{ruling_in_rule}
 use Rattle.command.specs.declared.judgement.Judgement.TheVariants.{Error}
@@ -24,7 +24,7 @@ told c e =
 
 -- one without, whose numbers are in rule
 ruled : (e : tie.Else3) → let x = e.before in ruling_in_rule x.before.before.before.before.args.n ≡ true
-ruled e = let x = e.before in sym x.ruling-in-rule.ensures ∙ not_false x.ruling-in-rule.result e.if3.false
+ruled e = let x = e.before in sym x.ruling-in-rule.ensures ∙ not-false x.ruling-in-rule.result e.if3.false
 
 returns-3 : tie.Need-returns-3
 returns-3 c =

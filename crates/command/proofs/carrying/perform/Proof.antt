@@ -3,7 +3,7 @@ use Prim.Native.Nat.{◌≤◌}
 use mathlib.Core.Bool.{Bool, true, false}
 use mathlib.Core.Path.{◌≡◌, refl, ap, sym, ◌∙◌}
 use borrow.Author.Rules.{rules}
-use borrow.Author.Tests.{lt-ltb, le-ltb, not-true, not_false}
+use borrow.Author.Tests.{lt-ltb, le-ltb, not-true, not-false}
 use lib.ListN.{length}
 use Rattle.command.specs.Controller.{transfer_of, transfer_in_rule, parts_in_rule}
 use Rattle.command.specs.Ruling.{forged, meant, items_of, items_kept, same_items}
@@ -28,7 +28,7 @@ returns-2 c =
 
 -- the first two tests are passed
 passed : (e : tie.Else2) → let a = e.before.before.before.before.args in (64 ≤ length a.out.now) × (parts_in_rule a.settings a.r ≡ true)
-passed e = let r = e.before in (r.before.if1.false, sym r.in_rule_lem.ensures ∙ not_false r.in_rule_lem.result e.if2.false)
+passed e = let r = e.before in (r.before.if1.false, sym r.in_rule_lem.ensures ∙ not-false r.in_rule_lem.result e.if2.false)
 
 returns-3 : tie.Need-returns-3
 unfolding carry_call
@@ -97,7 +97,7 @@ returns-5 c =
     let e = branch k in
     let a = (start k).args in
     let d = drawn-so k in
-    let i = items k (not_false k.current.result f.if3.false) in
+    let i = items k (not-false k.current.result f.if3.false) in
     let z = rw d.1 at w.carry-record.ensures in (
       carries_is a.settings a.r a.buffer.now a.n a.joined.now d.0 i z
           ∙ sym (carry_call_lem a.settings a.r a.buffer.now a.n a.joined.now d.0 i a.out.now (passed e).0 (passed e).1),

@@ -1,7 +1,7 @@
 -- `encode` meets its contract, test by test.
 use mathlib.Core.Path.{refl}
 use borrow.Author.Rules.{rules}
-use borrow.Author.Tests.{lt-ltb, le-ltb, not-true, not_false}
+use borrow.Author.Tests.{lt-ltb, le-ltb, not-true, not-false}
 use Rattle.command.specs.Encoder.{encode_call}
 use Rattle.command.proofs.encoder.encode.Statement.{statement}
 use Rattle.command.proofs.encoder.encode.Tie as tie
@@ -18,7 +18,7 @@ returns-3 c =
     let p = c.before.before in
     let t = p.before.before in
     let e = le-ltb _ 64 t.before.before.if1.false in
-    rw (e, ← t.before.allowed.ensures, not_false t.before.allowed.result t.if2.false, p.put.ensures.0, p.put.ensures.1) (refl, refl)
+    rw (e, ← t.before.allowed.ensures, not-false t.before.allowed.result t.if2.false, p.put.ensures.0, p.put.ensures.1) (refl, refl)
 
 pub encode_spec : {M : Type 1} → statement M
 unfolding encode_call

@@ -1,7 +1,7 @@
 -- `standard_list` meets its contract, test by test.
 use mathlib.Core.Path.{refl}
 use borrow.Author.Rules.{rules}
-use borrow.Author.Tests.{lt-ltb, le-ltb, not-true, not_false}
+use borrow.Author.Tests.{lt-ltb, le-ltb, not-true, not-false}
 use Rattle.command.specs.Encoder.{list_call}
 use Rattle.command.proofs.encoder.standard_list.Statement.{statement}
 use Rattle.command.proofs.encoder.standard_list.Tie as tie
@@ -18,7 +18,7 @@ returns-3 c =
     let p = c.before.before in
     let t = p.before.before in
     let e = le-ltb _ 128 t.before.before.if1.false in
-    rw (e, ← t.before.settings-in-rule.ensures, not_false t.before.settings-in-rule.result t.if2.false, p.put-list.ensures.0, p.put-list.ensures.1) (refl, refl)
+    rw (e, ← t.before.settings-in-rule.ensures, not-false t.before.settings-in-rule.result t.if2.false, p.put-list.ensures.0, p.put-list.ensures.1) (refl, refl)
 
 pub standard_list_spec : {M : Type 1} → statement M
 unfolding list_call

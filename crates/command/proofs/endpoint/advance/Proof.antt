@@ -1,6 +1,6 @@
 -- `advance` meets its contract.
 use mathlib.Core.Path.{◌≡◌, refl, sym, ◌∙◌}
-use borrow.Author.Tests.{le-ltb, not-true, not_false}
+use borrow.Author.Tests.{le-ltb, not-true, not-false}
 use native.Mathlib.Omega.{arith}
 use Prim.Native.Nat.{ℕ, ◌≤◌}
 use mathlib.Core.Bool.{true, false}
@@ -67,7 +67,7 @@ returns-2 c =
     let f = c.before.before.before.before.before.before.before in
     let t = f.before.before.before in
     let s = start t in
-    (e.0 ∙ sym (answers (came s) s.args.input.now s.args.out.now s.pre.1 s.pre.0 (took t) (not_false t.receive.result.complete f.if1.false)), e.1)
+    (e.0 ∙ sym (answers (came s) s.args.input.now s.args.out.now s.pre.1 s.pre.0 (took t) (not-false t.receive.result.complete f.if1.false)), e.1)
 
 pub advance_spec : {M : Type 1} → statement M
 advance_spec =

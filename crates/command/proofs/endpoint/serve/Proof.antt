@@ -1,7 +1,7 @@
 -- `serve` meets its contract, test by test.
 use mathlib.Core.Path.{refl, sym, ◌∙◌}
 use borrow.Author.Rules.{rules}
-use borrow.Author.Tests.{lt-ltb, le-ltb, not-true, not_false}
+use borrow.Author.Tests.{lt-ltb, le-ltb, not-true, not-false}
 use Rattle.command.specs.Endpoint.{receive_call}
 use Rattle.command.proofs.endpoint.serve.Statement.{statement}
 use Rattle.command.proofs.endpoint.serve.Tie as tie
@@ -15,7 +15,7 @@ returns-2 c =
 advance-requires : tie.Need-advance-requires
 advance-requires c κs =
     let r = c.before.before.before.before.in_rule_lem in
-    (sym r.ensures ∙ not_false r.result c.before.before.before.if2.false, search rules)
+    (sym r.ensures ∙ not-false r.result c.before.before.before.if2.false, search rules)
 
 pub serve_spec : {M : Type 1} → statement M
 unfolding receive_call

@@ -7,7 +7,7 @@ use native.Mathlib.Omega.{arith}
 use lib.ListN.{length, take, drop, length-drop}
 use lib.Seq.{length-take-le}
 use borrow.Author.Rules.{rules}
-use borrow.Author.Tests.{not-true, not_false}
+use borrow.Author.Tests.{not-true, not-false}
 use Rattle.packet.specs.Stream.{size, has_packet}
 use Rattle.packet.proofs.NumberLaws.{bytes_at, bytes_take, bytes_drop}
 use Rattle.packet.proofs.StreamLaws.{size_most, next_none, no_header}
@@ -30,7 +30,7 @@ decreases-loop b end settings₀ transfer₀ buffer₀ first₀ opener₀ at₀ 
 
 -- the settings are in rule past the test
 ruled : (c : tie.Else1 invariant-loop decreases-loop) → settings_in_rule c.before.before.before.args.s ≡ true
-ruled c = sym c.before.settings-in-rule.ensures ∙ not_false c.before.settings-in-rule.result c.if1.false
+ruled c = sym c.before.settings-in-rule.ensures ∙ not-false c.before.settings-in-rule.result c.if1.false
 
 returns : tie.Need-returns invariant-loop decreases-loop
 returns c =

@@ -1,6 +1,6 @@
 -- `receive` meets its contract: each return has the tests that led to it.
 use Rattle.std.proofs.Common.{sym, ◌∙◌, rules, le-ltb, lt-ltb}
-use borrow.Author.Tests.{not-true, not_false}
+use borrow.Author.Tests.{not-true, not-false}
 use Rattle.dlpc200.specs.Endpoint.{judged_in, response_in, receive_call}
 use Rattle.dlpc200.proofs.endpoint.receive.Statement.{statement}
 use Rattle.dlpc200.proofs.endpoint.receive.Tie as tie
@@ -27,7 +27,7 @@ returns-3 c =
     let t = f.before.take.ensures in
     let q = f.before.before in
     let e = le-ltb _ _ q.before.before.if1.false in
-    let r = sym q.before.in_rule_lem.ensures ∙ not_false _ q.if2.false in (
+    let r = sym q.before.in_rule_lem.ensures ∙ not-false _ q.if2.false in (
       rw (e, r, ← t.0, ← t.1, f.if3.true) k.0,
       rw (e, r, ← t.0, ← t.1, f.if3.true) k.1,
       rw (e, r, ← t.0, ← t.1, f.if3.true) k.2,
@@ -41,7 +41,7 @@ returns-4 c =
     let t = f.before.take.ensures in
     let q = f.before.before in
     let e = le-ltb _ _ q.before.before.if1.false in
-    let r = sym q.before.in_rule_lem.ensures ∙ not_false _ q.if2.false in
+    let r = sym q.before.in_rule_lem.ensures ∙ not-false _ q.if2.false in
     (rw (e, r, ← t.0, f.if3.false), rw (e, r, ← t.0, ← t.1, f.if3.false), rw (e, r, ← t.0, f.if3.false))
 
 pub receive_spec : {M : Type 1} → statement M

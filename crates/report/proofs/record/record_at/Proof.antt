@@ -1,7 +1,7 @@
 -- `record_at` meets its contract.
 use mathlib.Core.Path.{sym, ◌∙◌}
 use native.Mathlib.Omega.{arith}
-use borrow.Author.Tests.{not-true, not_false}
+use borrow.Author.Tests.{not-true, not-false}
 use borrow.Author.Rules.{rules}
 use Rattle.report.proofs.record.Laws.{told_header, told_body, told_kind, told_size, told_record}
 use Rattle.report.proofs.record.record_at.Statement.{statement}
@@ -42,7 +42,7 @@ returns-5 c =
     let w = v.before in
     let s = w.before.before.before in
     told_record s.args.r.now s.args.kind s.args.at s.requires w.word_at.ensures.0 v.word-at2.ensures.0 (omega arith) z.before.if3.false
-    (sym z.has-size.ensures ∙ not_false z.has-size.result c.if4.false)
+    (sym z.has-size.ensures ∙ not-false z.has-size.result c.if4.false)
 
 pub record_at_spec : {M : Type 1} → statement M
 record_at_spec =

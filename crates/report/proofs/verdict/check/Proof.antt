@@ -6,7 +6,7 @@ use mathlib.Core.Option.{none, some}
 use mathlib.Core.List.{List}
 use native.Mathlib.Omega.{arith}
 use borrow.Author.Rules.{rules}
-use borrow.Author.Tests.{not-true, not_false}
+use borrow.Author.Tests.{not-true, not-false}
 use lib.ListN.{length, length-take, drop, length-drop}
 use Rattle.packet.specs.Number.{Bytes}
 use Rattle.packet.proofs.NumberLaws.{bytes_at}
@@ -163,7 +163,7 @@ returns-6 c =
     let n = next_of d in
     let h = head_of n in
     let r = reportIn (start h) in
-    promised_yes r (all-bytes (start h)) (accepted_with r (head_is h) (best-is n) (winner-is d) (clean-yes i) (compared m ∙ not_false m.same-settings.result c.if1.false)) d.enum-told3.given.1
+    promised_yes r (all-bytes (start h)) (accepted_with r (head_is h) (best-is n) (winner-is d) (clean-yes i) (compared m ∙ not-false m.same-settings.result c.if1.false)) d.enum-told3.given.1
 
 pub check_spec : {M : Type 1} → statement M
 check_spec =
