@@ -42,7 +42,7 @@ use Rattle.command.specs.declared.transfer.TransferState.{TransferState}
 use Rattle.command.specs.declared.controller.Controller.{Controller}
 use Rattle.command.proofs.table.Laws.{known_code, same_eq}
 use Rattle.command.proofs.value.Laws.{command_from, values_from}
-use Rattle.command.proofs.faults.Laws.{two_true, firstGroup, no_fault}
+use Rattle.command.proofs.faults.Laws.{two_true, first_group, no_fault}
 use Rattle.command.proofs.judgement.Laws.{judge_cases}
 use Rattle.command.proofs.judgement.Called.{IsError, exactly_called}
 use Rattle.command.proofs.endpoint.Boundary.{follows_played}
@@ -205,7 +205,7 @@ module _ (a : State) (q : List ℕ) where
   good_accepted : ((codes : List ℕ) → DrawsOn a (arrived q) codes → ⊥) → Accepted a q (response a.settings (arrived q) (judged a q)) (next a q)
   unfolding next judged
   good_accepted free =
-      judge_cases Accepts a.settings.mode a.transfer (arrived q) (λ _. no_error (firstGroup a.transfer (arrived q)))
+      judge_cases Accepts a.settings.mode a.transfer (arrived q) (λ _. no_error (first_group a.transfer (arrived q)))
       (λ c e h.
       let k : Names (cmd1_of q) (cmd2_of q) c = known_code (cmd1_of q) (cmd2_of q) c e in
       let none : (n : ℕ) → FirstFault a.transfer (arrived q) n → ⊥ =

@@ -55,7 +55,7 @@ abbrev pub total : List ℕ → ℕ
 total [] = 0
 total (w ∷ ws) = w + total ws
 
--- the number in the w bytes of d from a place on: valueOf of them (law number_at_lem of data/Laws)
+-- the number in the w bytes of d from a place on: value_of of them (law number_at_lem of data/Laws)
 abbrev pub number_at : ℕ → List ℕ → ℕ → ℕ
 number_at zero d at = 0
 number_at (suc w) d at = get_or d at 0 + 256 * number_at w d (at + 1)
@@ -117,7 +117,7 @@ abbrev pub or_else : Option ℕ → Option ℕ → Option ℕ
 or_else none o = o
 or_else (some n) o = some n
 
--- the state of the head by its settings, its transfer's numbers and the array of the transfer's data: stateOf of a controller that has these, by computing
+-- the state of the head by its settings, its transfer's numbers and the array of the transfer's data: state_of of a controller that has these, by computing
 abbrev pub state_in : Settings → TransferState → List ℕ → State
 state_in s t buffer = record { settings = s; transfer = transfer_in t buffer }
 

@@ -2,7 +2,7 @@
 ghost use Rattle.std.specs.Prelude.{◌≡◌, true, ◌<◌, ◌≤◌, length};
 ghost use Rattle.packet.specs.Writer.{written};
 ghost use Rattle.command.specs.Controller.{transfer_of, transfer_in_rule, transfer_state_after, buffer_after};
-ghost use Rattle.command.specs.Carry.{settings_after as settingsAfterOf};
+ghost use Rattle.command.specs.Carry.{settings_after as settings_after_of};
 ghost use Rattle.command.specs.Response.{response_to};
 ghost use Rattle.command.specs.Inner.{with_transfer};
 
@@ -14,7 +14,7 @@ use crate::transfer::{HOLD, TransferState};
 
 // The settings afterwards: only a write changes them.
 pub(crate) fn settings_after(s: Settings, j: Judgement) -> Settings
-    ensures { result ≡ settingsAfterOf s j }
+    ensures { result ≡ settings_after_of s j }
 {
     match j {
         Judgement::Write(v) => stored(s, v),
@@ -71,7 +71,7 @@ pub(crate) fn carry(
     out: &mut [u8],
 ) -> Carried
     requires { (transfer_in_rule (transfer_of r) ≡ true) × (length payload.now ≤ 1024) × (64 ≤ length out.old) }
-    ensures { (result.settings ≡ settingsAfterOf settings j)
+    ensures { (result.settings ≡ settings_after_of settings j)
         × (result.registers ≡ with_transfer r (transfer_state_after (transfer_of r) payload.now j))
         × (buffer.new ≡ buffer_after (transfer_of r) buffer.old payload.now j)
         × (result.length ≡ length (response_to cmd1 cmd2 settings j))

@@ -3,7 +3,7 @@
 ghost use Rattle.std.specs.Prelude.{◌≡◌, true, ◌++◌, ◌≤◌, ◌<◌, length};
 ghost use Rattle.packet.specs.Packet.{type_of, flags_of, right_sum};
 ghost use Rattle.packet.specs.Stream.{size};
-ghost use Rattle.command.specs.Judgement.{judge_data as judgeDataOf, judge_read as judgeReadOf, judge_write as judgeWriteOf, judge as judgeOf};
+ghost use Rattle.command.specs.Judgement.{judge_data as judge_data_of, judge_read as judge_read_of, judge_write as judge_write_of, judge as judge_of};
 ghost use Rattle.command.specs.Controller.{transfer_in, packet_in, transfer_in_rule};
 ghost use Rattle.command.specs.Faults.{arrived};
 ghost use Rattle.command.specs.Response.{wrong_in};
@@ -45,7 +45,7 @@ impl Judgement {
 // The data of a write are complete: what is held, and the payload.
 fn judge_write(c: Command, mode: u8, held: &[u8], payload: &[u8]) -> Judgement
     requires { (length held.now ≤ 1024) × (length payload.now < 65536) }
-    ensures { result ≡ judgeWriteOf c mode (held.now ++ payload.now) }
+    ensures { result ≡ judge_write_of c mode (held.now ++ payload.now) }
 {
     let Parsed::Values(v) = parse(c, held, payload) else {
         return Judgement::Error(Codes::SIZE);
@@ -62,7 +62,7 @@ fn judge_write(c: Command, mode: u8, held: &[u8], payload: &[u8]) -> Judgement
 
 // A read has no request data.
 fn judge_read(c: Command, n: usize) -> Judgement
-    ensures { result ≡ judgeReadOf c n }
+    ensures { result ≡ judge_read_of c n }
 {
     if n == 0 {
         return Judgement::Read(c);
@@ -73,7 +73,7 @@ fn judge_read(c: Command, n: usize) -> Judgement
 // With no fault of the first group: only for flags 00 or 03 are the data complete.
 fn judge_data(c: Command, mode: u8, header: [u8; HEADER], held: &[u8], payload: &[u8]) -> Judgement
     requires { (length held.now ≤ 1024) × (length payload.now < 65536) }
-    ensures { result ≡ judgeDataOf c mode (type_of header) (flags_of header) (held.now ++ payload.now) }
+    ensures { result ≡ judge_data_of c mode (type_of header) (flags_of header) (held.now ++ payload.now) }
 {
     let kind = header[0];
     let flags = header[3];
@@ -97,7 +97,7 @@ pub(crate) fn judge(
     payload: &[u8],
 ) -> Judgement
     requires { (transfer_in_rule t ≡ true) × (length buffer.now ≡ 1024) × (length payload.now < 65536) }
-    ensures { result ≡ judgeOf mode (transfer_in t buffer.now) (packet_in header right payload.now) }
+    ensures { result ≡ judge_of mode (transfer_in t buffer.now) (packet_in header right payload.now) }
 {
     let found = Command::find(header[1], header[2]);
     let codes = faults(found, t, header, right);
@@ -120,7 +120,7 @@ pub(crate) fn judge_bytes(
     right: bool,
 ) -> Judgement
     requires { (7 ≤ length p.now) × (length p.now ≤ 65542) × (size p.now ≡ length p.now) × (right ≡ right_sum p.now) × (transfer_in_rule t ≡ true) × (length buffer.now ≡ 1024) }
-    ensures { result ≡ judgeOf mode (transfer_in t buffer.now) (arrived p.now) }
+    ensures { result ≡ judge_of mode (transfer_in t buffer.now) (arrived p.now) }
 {
     let header = [p[0], p[1], p[2], p[3], p[4], p[5]];
     judge(mode, t, header, right, buffer, &p[HEADER..p.len() - 1])

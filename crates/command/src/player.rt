@@ -3,7 +3,7 @@ ghost use Rattle.std.specs.Prelude.{◌≡◌, cond, ltb};
 ghost use Rattle.std.proofs.Math.Option.{none, some};
 ghost use Rattle.command.specs.Response.{acknowledged};
 ghost use Rattle.command.specs.Inner.{is_open_in, or_else};
-ghost use Rattle.command.specs.Player.{earlier as earlierOf, end_settings, end_offence, place_of};
+ghost use Rattle.command.specs.Player.{earlier as earlier_of, end_settings, end_offence, place_of};
 
 use crate::carry::{settings_after, transfer_after};
 use crate::judgement::{Judgement, judge_bytes};
@@ -36,7 +36,7 @@ impl Offence {
 
     // The earlier of two.
     fn earlier(self, other: Offence) -> Offence
-        ensures { place_of result ≡ earlierOf (place_of self) (place_of other) }
+        ensures { place_of result ≡ earlier_of (place_of self) (place_of other) }
     {
         let Offence::At(m) = self else {
             return other;

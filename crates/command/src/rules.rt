@@ -6,7 +6,7 @@
 // answers with the byte that the first row begins with whose value is not allowed; a rule between two rows
 // stands at the later one. At the end: what the checks mean for a write and for all settings.
 ghost use Rattle.std.specs.Prelude.{◌/◌, ◌%◌, ◌<◌, ◌≡◌, [], ◌∷◌, not, ◌&&◌, ◌||◌, eqb, leb};
-ghost use Rattle.command.specs.Rules.{listed, most_patterns, one_of, pairs, within, first_wrong, mode_fields, pattern_fields, current_fields, colour_fields, setting_fields, input_fields, video_fields, sequence_fields, run_fields, allowed as allowedIn, wrong_byte, blocked as blockedIn, settings_in_rule};
+ghost use Rattle.command.specs.Rules.{listed, most_patterns, one_of, pairs, within, first_wrong, mode_fields, pattern_fields, current_fields, colour_fields, setting_fields, input_fields, video_fields, sequence_fields, run_fields, allowed as allowed_in, wrong_byte, blocked as blocked_in, settings_in_rule};
 ghost use Rattle.command.specs.Inner.{is_nothing};
 ghost use Rattle.command.specs.Value.{command_in, values_in};
 
@@ -438,14 +438,14 @@ pub(crate) fn wrong_byte(v: Value) -> WrongByte
 
 // The values of a write are allowed.
 pub(crate) fn allowed(v: Value) -> bool
-    ensures { result ≡ allowedIn (command_in v) (values_in v) }
+    ensures { result ≡ allowed_in (command_in v) (values_in v) }
 {
     wrong_byte(v).is_nothing()
 }
 
 // Run 1 outside display mode 4 (document 01; the guide has no such rule).
 pub(crate) fn blocked(v: Value, mode: u8) -> bool
-    ensures { result ≡ blockedIn (command_in v) (values_in v) mode }
+    ensures { result ≡ blocked_in (command_in v) (values_in v) mode }
 {
     match v {
         Value::SequenceRun(r) => (r == 1) & (mode != PATTERN_SEQUENCE_MODE),

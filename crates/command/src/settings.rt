@@ -1,6 +1,6 @@
 // The settings of the head: a part for each command, the factory values, a command's values out of them and a write stored in them.
 ghost use Rattle.std.specs.Prelude.{◌≡◌};
-ghost use Rattle.command.specs.Settings.{factory as factoryOf, store as storeIn, values_of};
+ghost use Rattle.command.specs.Settings.{factory as factory_of, store as store_in, values_of};
 ghost use Rattle.command.specs.Value.{command_in, values_in, value_from};
 
 use crate::table::Command;
@@ -155,7 +155,7 @@ impl Settings {
 
     // The factory values.
     pub fn factory() -> Settings
-        ensures { result ≡ factoryOf }
+        ensures { result ≡ factory_of }
     {
         Settings::FACTORY
     }
@@ -198,7 +198,7 @@ pub fn value_of(s: Settings, c: Command) -> Value
 
 // The settings after a write. Leaving the mode of sequences stops a running one.
 pub(crate) fn stored(s: Settings, v: Value) -> Settings
-    ensures { result ≡ storeIn (command_in v) (values_in v) s }
+    ensures { result ≡ store_in (command_in v) (values_in v) s }
 {
     let mut t = s;
     match v {

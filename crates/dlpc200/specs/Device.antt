@@ -1,6 +1,6 @@
 -- The device: what has come in of the current packet, and the states; when it is in rule, and how it takes bytes.
 use Rattle.std.specs.Prelude.{ℕ, Bool, ◌&&◌, List, replicate}
-use Rattle.packet.specs.Receiver.{Receiver, Received, packet_in_rule, receiving as packetReceiving}
+use Rattle.packet.specs.Receiver.{Receiver, Received, packet_in_rule, receiving as packet_receiving}
 use Rattle.dlpc200.specs.Packet.{after_cmd4}
 use Rattle.dlpc200.specs.States.{in_range}
 use Rattle.dlpc200.specs.declared.states.States.{States}
@@ -25,4 +25,4 @@ device_of s r = record { received = r.received; header = r.header; hold = r.hold
 -- one call: it takes bytes until the input ends or one packet is complete. The sum is of everything after CMD4 and begins anew with the first byte of that.
 -- A device of any field values is answered.
 abbrev pub receiving : Device → List ℕ → Received
-receiving d b = packetReceiving after_cmd4 (receiver_of d) b
+receiving d b = packet_receiving after_cmd4 (receiver_of d) b

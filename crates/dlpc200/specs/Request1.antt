@@ -6,7 +6,7 @@ use Rattle.packet.specs.Calls.{Served}
 use Rattle.packet.specs.Packet.{payload_length, payload}
 use Rattle.packet.specs.Receiver.{Receiver as PacketReceiver, with}
 use Rattle.packet.specs.Stream.{packets, rest}
-use Rattle.dlpc200.specs.Packet.{cmd1_of, cmd2_of, cmd4_of, id_of, write, read, read_resp, extended, only, after_cmd4, checksum as checksumOf, right_sum, packet_of}
+use Rattle.dlpc200.specs.Packet.{cmd1_of, cmd2_of, cmd4_of, id_of, write, read, read_resp, extended, only, after_cmd4, checksum as checksum_of, right_sum, packet_of}
 use Rattle.dlpc200.specs.Table.{id_for, cmd1_for, size_for}
 use Rattle.dlpc200.specs.States.{shown_of, data_of}
 use Rattle.dlpc200.specs.Status.{any_fault, no_faults, data0, data1, fault_bits, faults_held}
@@ -53,7 +53,7 @@ pub data WrongSize (p : List ℕ) : Type 0 where
 -- f are all faults that hold of the packet p, and no others
 pub record FaultsHold (p : List ℕ) (f : Faults) : Type 0 where
   -- "a wrong checksum"
-  pub checksum : (f.checksum ≡ true) ↔ (slice_index p (6 + payload_length p) ≢ checksumOf (take (6 + payload_length p) p))
+  pub checksum : (f.checksum ≡ true) ↔ (slice_index p (6 + payload_length p) ≢ checksum_of (take (6 + payload_length p) p))
   pub cmd1 : (f.cmd1 ≡ true) ↔ WrongCmd1 p
   -- "CMD2 not AA"
   pub cmd2 : (f.cmd2 ≡ true) ↔ (cmd2_of p ≢ extended)

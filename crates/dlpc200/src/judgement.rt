@@ -2,7 +2,7 @@
 ghost use Rattle.std.specs.Prelude.{◌≡◌};
 ghost use Rattle.packet.specs.Packet.{payload_length};
 ghost use Rattle.dlpc200.specs.Inner.{arrived_by, arrived_of};
-ghost use Rattle.dlpc200.specs.Judgement.{command_in, faults_of, judge as judgeOf, states_after, wrong_cmd1, wrong_size};
+ghost use Rattle.dlpc200.specs.Judgement.{command_in, faults_of, judge as judge_of, states_after, wrong_cmd1, wrong_size};
 
 use crate::header::{DATA_LIMIT, EXTENDED, HOLD, ID_SIZE, ONLY, READ, WRITE};
 use crate::states::States;
@@ -66,7 +66,7 @@ fn faults_in(found: Found, header: [u8; HEADER], right: bool) -> Faults
 
 // A complete packet: its header, its first data bytes, and whether its checksum was right.
 pub(crate) fn judge(header: [u8; HEADER], hold: [u8; HOLD], right: bool) -> Judgement
-    ensures { result ≡ judgeOf (arrived_by header hold right) }
+    ensures { result ≡ judge_of (arrived_by header hold right) }
 {
     let found = command_in(header, hold);
     let faults = faults_in(found, header, right);

@@ -94,7 +94,7 @@ pub record Lists (s : Settings) (out : List ℕ) : Type 0 where
   pub rest : drop 111 (list_call s out).output ≡ drop 111 out
 
 -- The elements of a report are bytes: the slice that the call is lent has none of 256 or more, and the proofs say so by `Bytes r`. It matters where
--- what was read is written again: two bytes are the bytes_of 2 of their valueOf, larger numbers are not.
+-- what was read is written again: two bytes are the bytes_of 2 of their value_of, larger numbers are not.
 --
 -- The answer v to the report r: it is the verdict; it is a yes exactly when the claim holds, with that trial's number, score and end settings;
 -- and it is a yes to a report that ships the standard list, whatever its trials sent. Such a list can always be had: whatever trials were run, and

@@ -110,43 +110,43 @@ same_transfer m n t u x y e = by_items m t x ∙ ap (λ (i : Items). transfer_by
 
 -- The record of a judgement j of the packet p.
 module _ (c : Controller) (k : Ready c) (p : List ℕ) (lent : JudgementRecord) where
-  abbrev recordFor : Judgement → JudgementRecord
-  recordFor j = (judged_as c p j lent).judgement
+  abbrev record_for : Judgement → JudgementRecord
+  record_for j = (judged_as c p j lent).judgement
 
   -- the transfer by its numbers, and its data
   abbrev numbers : TransferState
   numbers = transfer_of c.registers
 
-  abbrev heldData : List ℕ
-  heldData = held (state_of c).transfer
+  abbrev held_data : List ℕ
+  held_data = held (state_of c).transfer
 
-  joined_is : (j : Judgement) → joined_in (recordFor j) ≡ data_for heldData (payload p) j
+  joined_is : (j : Judgement) → joined_in (record_for j) ≡ data_for held_data (payload p) j
   unfolding written
   joined_is j =
-      take_at (data_for heldData (payload p) j) (drop (length (data_for heldData (payload p) j)) lent.joined) (length (data_for heldData (payload p) j)) refl
+      take_at (data_for held_data (payload p) j) (drop (length (data_for held_data (payload p) j)) lent.joined) (length (data_for held_data (payload p) j)) refl
 
   -- it keeps the items
-  items_kept_lem : (j : Judgement) → items_kept (recordFor j) ≡ items_of c
+  items_kept_lem : (j : Judgement) → items_kept (record_for j) ≡ items_of c
   unfolding written
   items_kept_lem j =
       ap (λ (x : List ℕ). record { mode = c.settings.mode; command = (items_of c).command; count = held_in numbers; held = x })
-      (held_first heldData (payload p) (drop (length (data_for heldData (payload p) j)) lent.joined) (held_in numbers) (held_same c k) j
+      (held_first held_data (payload p) (drop (length (data_for held_data (payload p) j)) lent.joined) (held_in numbers) (held_same c k) j
       ∙ held_is numbers (rule_parts c.settings c.registers k.rule).transfer c.buffer)
 
-  open_kept_lem : (j : Judgement) → open_kept (recordFor j) ≡ (state_of c).transfer
-  open_kept_lem j = same_transfer c.settings.mode c.settings.mode numbers numbers (recordFor j).joined c.buffer (items_kept_lem j)
+  open_kept_lem : (j : Judgement) → open_kept (record_for j) ≡ (state_of c).transfer
+  open_kept_lem j = same_transfer c.settings.mode c.settings.mode numbers numbers (record_for j).joined c.buffer (items_kept_lem j)
 
   -- it says the judgement, and is not refused with 2
   record Genuine (j : Judgement) : Type 0 where
-    means : meant (recordFor j) ≡ told j
-    drawn : forged (recordFor j) ≡ false
+    means : meant (record_for j) ≡ told j
+    drawn : forged (record_for j) ≡ false
 
   module _ (codes : Codes) where
-    no_codes : (f : Found) → accepted_as f (recordFor (Error codes)) ≡ Error (codes_told 0)
+    no_codes : (f : Found) → accepted_as f (record_for (Error codes)) ≡ Error (codes_told 0)
     no_codes Unknown = refl
     no_codes (Known d) = refl
 
-    error_means : meant (recordFor (Error codes)) ≡ Error (codes_alone codes)
+    error_means : meant (record_for (Error codes)) ≡ Error (codes_alone codes)
     unfolding meant
     error_means =
         cond_cases (λ m. m ≡ Error (codes_told (mask_of codes))) (eqb (mask_of codes) 0)
@@ -159,7 +159,7 @@ module _ (c : Controller) (k : Ready c) (p : List ℕ) (lent : JudgementRecord) 
     error_genuine h =
         record {
           means = error_means;
-          drawn = ap (λ (m : Judgement). is_nil (codes_in m) && not (drawable (recordFor (Error codes)))) error_means ∙ rw h;
+          drawn = ap (λ (m : Judgement). is_nil (codes_in m) && not (drawable (record_for (Error codes)))) error_means ∙ rw h;
         }
 
   -- what a packet with no fault draws
@@ -167,39 +167,39 @@ module _ (c : Controller) (k : Ready c) (p : List ℕ) (lent : JudgementRecord) 
   NoFault d = any_fault (faults (Known d) (state_of c).transfer (arrived p)) ≡ false
 
   module _ (i : IsPacket p) (d : Command) (e : command_of (cmd1_of p) (cmd2_of p) ≡ Known d) (n : NoFault d) where
-    accepted_genuine : (j : Judgement) → mask_in j ≡ 0 → wrong_in j ≡ none → data_for heldData (payload p) j ≡ heldData ++ payload p
-        → accepted_as (Known d) (recordFor j) ≡ told j → acceptable (Known d) (recordFor j) ≡ true → Genuine j
+    accepted_genuine : (j : Judgement) → mask_in j ≡ 0 → wrong_in j ≡ none → data_for held_data (payload p) j ≡ held_data ++ payload p
+        → accepted_as (Known d) (record_for j) ≡ told j → acceptable (Known d) (record_for j) ≡ true → Genuine j
     unfolding meant forged drawable
     accepted_genuine j m w x a g =
         let q = rule_parts c.settings c.registers k.rule in
         let f = fits_hold (Known d) (state_of c).transfer (arrived p) n in
         let s = held_same c k in
-        let l : length (data_for heldData (payload p) j) ≡ held_in numbers + payload_length p =
-        ap length x ∙ length-append heldData (payload p) ∙ omega (arith, s, payload_length_lem p i.exact) in
-        let kept : kept_in_rule (recordFor j) ≡ true = and_both _ _ ((kept_by c.settings q.settings).values DisplayMode) q.transfer in
-        let joined : joined_in_rule (recordFor j) ≡ true =
-        and_both _ _ (le-leb (held_in numbers) (length (data_for heldData (payload p) j)) (omega (arith, l)))
-        (le-leb (length (data_for heldData (payload p) j)) 1024 (omega (arith, l, f, s))) in
-        let draws : drawable (recordFor j) ≡ true =
+        let l : length (data_for held_data (payload p) j) ≡ held_in numbers + payload_length p =
+        ap length x ∙ length-append held_data (payload p) ∙ omega (arith, s, payload_length_lem p i.exact) in
+        let kept : kept_in_rule (record_for j) ≡ true = and_both _ _ ((kept_by c.settings q.settings).values DisplayMode) q.transfer in
+        let joined : joined_in_rule (record_for j) ≡ true =
+        and_both _ _ (le-leb (held_in numbers) (length (data_for held_data (payload p) j)) (omega (arith, l)))
+        (le-leb (length (data_for held_data (payload p) j)) 1024 (omega (arith, l, f, s))) in
+        let draws : drawable (record_for j) ≡ true =
         and_both _ _
         (and_both _ _ (and_both _ _ (and_both _ _ (eq-eqb (mask_in j) 0 m) (ap (λ (o : Option ℕ). eqb (wrong_told o) no_wrong) w)) kept) joined)
-        (ap (λ (f : Found). acceptable f (recordFor j)) e ∙ g) in
+        (ap (λ (f : Found). acceptable f (record_for j)) e ∙ g) in
         record {
           means = rw (m, e) a;
-          drawn = ap (λ (b : Bool). uncoded (recordFor j) && not b) draws ∙ and-false (uncoded (recordFor j));
+          drawn = ap (λ (b : Bool). uncoded (record_for j) && not b) draws ∙ and-false (uncoded (record_for j));
         }
 
-    continues_own : (j : Judgement) → in_order d (recordFor j) ≡ true
+    continues_own : (j : Judgement) → in_order d (record_for j) ≡ true
     continues_own j = ap (λ (t : Transfer). not (is_open t) || open_for (Known d) t) (open_kept_lem j) ∙ in_order_lem d (state_of c).transfer (arrived p) n
 
-    asks_only_lem : eqb (type_of p) host_read ≡ true → eqb (length (heldData ++ payload p)) 0 ≡ true → asks_only d (recordFor (Read d)) ≡ true
+    asks_only_lem : eqb (type_of p) host_read ≡ true → eqb (length (held_data ++ payload p)) 0 ≡ true → asks_only d (record_for (Read d)) ≡ true
     asks_only_lem r z =
         let a = reads_alone d (state_of c).transfer (arrived p) n r in
         and_both _ _ (and_both _ _ (ap (λ (t : Transfer). not (is_open t)) (open_kept_lem (Read d)) ∙ ap not a.0) a.1) z
 
-    may_write : length (heldData ++ payload p) ≡ size_of d → Writable c.settings.mode d (split_all (layout d) (heldData ++ payload p))
-        → writable d c.settings.mode (heldData ++ payload p) ≡ true
-    may_write l w = and_both _ _ (and_both _ _ (eq-eqb (length (heldData ++ payload p)) (size_of d) l) w.values) (ap not w.free)
+    may_write : length (held_data ++ payload p) ≡ size_of d → Writable c.settings.mode d (split_all (layout d) (held_data ++ payload p))
+        → writable d c.settings.mode (held_data ++ payload p) ≡ true
+    may_write l w = and_both _ _ (and_both _ _ (eq-eqb (length (held_data ++ payload p)) (size_of d) l) w.values) (ap not w.free)
 
   genuine : IsPacket p → Genuine (judged (state_of c) p)
   unfolding judged codes_of list_if
@@ -209,7 +209,7 @@ module _ (c : Controller) (k : Ready c) (p : List ℕ) (lent : JudgementRecord) 
       error_genuine (faults (command_of (cmd1_of p) (cmd2_of p)) (state_of c).transfer (arrived p))
       (some_code _ (codes_some (state_of c).transfer (arrived p) f)))
       (λ d e n.
-      let b : List ℕ = heldData ++ payload p in
+      let b : List ℕ = held_data ++ payload p in
       record {
         hold = λ _. accepted_genuine i d e n (Hold d) refl refl refl refl (continues_own i d e n (Hold d));
         read = λ _ r z. accepted_genuine i d e n (Read d) refl refl refl refl (asks_only_lem i d e n r z);
@@ -239,7 +239,7 @@ unfolding judge_call
 judge_is c p lent k o = rw (k.rule, one_packet_lem p (is_packet p o))
 
 module _ (c : Controller) (p : List ℕ) (lent : JudgementRecord) (k : Ready c) (o : OnePacket p) where
-  record_is : judgement_of c p lent ≡ recordFor c k p lent (judged (state_of c) p)
+  record_is : judgement_of c p lent ≡ record_for c k p lent (judged (state_of c) p)
   record_is = ap (λ (r : Judging). r.judgement) (judge_is c p lent k o)
 
   -- what it means

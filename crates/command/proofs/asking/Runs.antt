@@ -11,7 +11,7 @@ use lib.Seq.{length-sets}
 use borrow.Author.Tests.{lt-ltb, leb-true, not-true, not-false}
 use Rattle.packet.specs.Calls.{served_one, joined}
 use Rattle.packet.specs.Packet.{payload_length}
-use Rattle.packet.specs.Receiver.{Receiver, with, waiting as receiverWaiting, packet_in_rule}
+use Rattle.packet.specs.Receiver.{Receiver, with, waiting as receiver_waiting, packet_in_rule}
 use Rattle.packet.specs.Stream.{has_packet, packets, rest}
 use Rattle.packet.proofs.Cases.{cond_cases, and_left, and_right}
 use Rattle.packet.proofs.Calls.{goes_on}
@@ -172,7 +172,7 @@ module _ (d : Controller) (k : Ready d) (base : Receiver) (z : base.received ≡
     together = record { pieces = (x ++ b) ∷ []; bytes = append-nil (x ++ b); outs = t.outs; room = t.room }
 
     sent_together : sent_to before together ≡ sent_to d t
-    unfolding receiverWaiting
+    unfolding receiver_waiting
     sent_together =
         let out = t.outs 0 in
         let l = t.room 0 in

@@ -11,7 +11,7 @@ use lib.Seq.{sets, get_or-take, take_at, drop_at}
 use Rattle.packet.specs.Answer.{Answers}
 use Rattle.packet.specs.Calls.{Call, Served, and_then, calls_on, served_one}
 use Rattle.packet.specs.Packet.{payload_length, payload, right_sum}
-use Rattle.packet.specs.Receiver.{Receiver, Received, with, waiting as receiverWaiting}
+use Rattle.packet.specs.Receiver.{Receiver, Received, with, waiting as receiver_waiting}
 use Rattle.packet.specs.Stream.{size, has_packet, packets, rest}
 use Rattle.packet.specs.Writer.{written}
 use Rattle.packet.proofs.Cases.{bool_cases}
@@ -149,8 +149,8 @@ module _ (out : List ℕ) (l : 64 ≤ length out) (c : Controller) (k : Ready c)
       }
 
   -- too few bytes for a packet are all taken
-  pub takes_part : (b : List ℕ) → has_packet b ≡ false → receive_call c b out ≡ waiting c (receiverWaiting 0 (receiver_in c) b) out
-  unfolding receiverWaiting
+  pub takes_part : (b : List ℕ) → has_packet b ≡ false → receive_call c b out ≡ waiting c (receiver_waiting 0 (receiver_in c) b) out
+  unfolding receiver_waiting
   takes_part b h = call_is c b out k l (too_few 0 (receiver_in c) q b h)
 
 pub between_of : {c : Controller} → Boundary c → Between (receiver_in c)
@@ -191,7 +191,7 @@ module _ (out : List ℕ) (l : 64 ≤ length out) where
   Claim b = (c : Controller) → Boundary c → Replies c b (served_one (serves out) c b)
 
   follows_none : (b : List ℕ) → has_packet b ≡ false → Claim b
-  unfolding served_one calls_on replies after receiverWaiting
+  unfolding served_one calls_on replies after receiver_waiting
   follows_none b h c q =
       let e = takes_part out l c q.ready (between_of q) b h in
       rw e

@@ -11,7 +11,7 @@ use lib.Seq.{sets, length-sets, take_at}
 use borrow.Author.Tests.{lt-ltb, le-ltb, ltb-true}
 use Rattle.packet.specs.Calls.{Served, served_one}
 use Rattle.packet.specs.Packet.{payload_length}
-use Rattle.packet.specs.Receiver.{Receiver, Received, with, missing, waiting as receiverWaiting, completed, packet_in_rule}
+use Rattle.packet.specs.Receiver.{Receiver, Received, with, missing, waiting as receiver_waiting, completed, packet_in_rule}
 use Rattle.packet.specs.Writer.{written}
 use Rattle.packet.proofs.Cases.{lt_cases, cond_cases}
 use Rattle.packet.proofs.Calls.{Streaming, shifted, keeps_calls, AnyOutput, at_once as sent-at-once}
@@ -58,8 +58,8 @@ module _ (c : Controller) (b out : List ℕ) (k : Ready c) (l : 64 ≤ length ou
   unfolding receive_call
   call_is e = rw (le-ltb (length out) 64 l, k.rule, e)
 
-  call_waits : length b < missing (receiver_in c) b → receive_call c b out ≡ waiting c (receiverWaiting 0 (receiver_in c) b) out
-  unfolding receiverWaiting
+  call_waits : length b < missing (receiver_in c) b → receive_call c b out ≡ waiting c (receiver_waiting 0 (receiver_in c) b) out
+  unfolding receiver_waiting
   call_waits h = call_is (waits 0 (receiver_in c) b h)
 
   call_answers : missing (receiver_in c) b ≤ length b → receive_call c b out ≡ answered c (completed 0 (receiver_in c) b (missing (receiver_in c) b)) out
@@ -145,7 +145,7 @@ ready_waiting c b k h =
 
 -- In rule stays in rule, whatever bytes come.
 pub stays_in_rule : (c : Controller) (b out : List ℕ) → Ready c → 64 ≤ length out → Ready (receive_call c b out).controller
-unfolding receiverWaiting completed with
+unfolding receiver_waiting completed with
 stays_in_rule c b out k l =
     lt_cases (length b) (missing (receiver_in c) b)
     (λ h. rw (call_waits c b out k l h) (ready_waiting c b k h))
@@ -195,7 +195,7 @@ module _ (out : List ℕ) (l : 64 ≤ length out) where
   count_answers c a k h = ap (λ (r : After). (shown r).taken) (call_answers c a out k l h)
 
   pub endpoint_streams : Streaming (serves out) Ready
-  unfolding receiverWaiting
+  unfolding receiver_waiting
   endpoint_streams =
       record {
         keeps = λ c b k. stays_in_rule c b out k l;

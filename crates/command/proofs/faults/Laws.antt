@@ -242,32 +242,32 @@ module _ (t : Transfer) (p : Arrived) where
       open_still (Opened c d) e f h = StillOpen c d f e
 
   -- Together: every fault is one whose test holds, and every test that holds is a fault.
-  abbrev pub firstGroup : Codes
-  firstGroup = faults (command_of p.cmd1 p.cmd2) t p
+  abbrev pub first_group : Codes
+  first_group = faults (command_of p.cmd1 p.cmd2) t p
 
-  listed_held : (n : ℕ) → Memᴰ n (codes_of firstGroup) → Held firstGroup n
+  listed_held : (n : ℕ) → Memᴰ n (codes_of first_group) → Held first_group n
   unfolding codes_of faults faults_of
   listed_held n =
       listed_cases false 1 n _ (λ t e. never t)
-      (listed_cases firstGroup.command 2 n _ (λ t e. rw e (Code02 t))
+      (listed_cases first_group.command 2 n _ (λ t e. rw e (Code02 t))
       (listed_cases false 3 n _ (λ t e. never t)
-      (listed_cases firstGroup.memory 4 n _ (λ t e. rw e (Code04 t))
+      (listed_cases first_group.memory 4 n _ (λ t e. rw e (Code04 t))
       (listed_cases false 5 n _ (λ t e. never t)
       (listed_cases false 6 n _ (λ t e. never t)
       (listed_cases false 7 n _ (λ t e. never t)
       (listed_cases false 8 n _ (λ t e. never t)
-      (listed_cases firstGroup.checksum 9 n _ (λ t e. rw e (Code09 t))
+      (listed_cases first_group.checksum 9 n _ (λ t e. rw e (Code09 t))
       (listed_cases false 10 n _ (λ t e. never t)
-      (listed_cases firstGroup.continuation 11 n [] (λ t e. rw e (Code0B t)) (λ h. absurd (Memᴰ.not-nil h))))))))))))
+      (listed_cases first_group.continuation 11 n [] (λ t e. rw e (Code0B t)) (λ h. absurd (Memᴰ.not-nil h))))))))))))
 
-  held_fault : (n : ℕ) → Held firstGroup n → FirstFault t p n
+  held_fault : (n : ℕ) → Held first_group n → FirstFault t p n
   unfolding faults faults_of
   held_fault n (Code02 h) = command_fault (command_of p.cmd1 p.cmd2) refl h
   held_fault n (Code04 h) = memory_fault h
   held_fault n (Code09 h) = WrongChecksum (not-true p.right h)
   held_fault n (Code0B h) = order_fault h
 
-  fault_held : (n : ℕ) → FirstFault t p n → Held firstGroup n
+  fault_held : (n : ℕ) → FirstFault t p n → Held first_group n
   unfolding faults faults_of wrong_command too_long wrong_order
   fault_held n (WrongChecksum h) = Code09 (rw h)
   fault_held n (UnknownType h g) = Code02 (rw (ne_eqb p.type host_write h, ne_eqb p.type host_read g))
@@ -286,34 +286,34 @@ module _ (t : Transfer) (p : Arrived) where
   fault_held n (StillOpen c d f e) = Code0B (rw (e, true_two p.flags whole beginning f, or-true))
 
   -- one of them holds exactly when the first group has one
-  held_any : (n : ℕ) → Held firstGroup n → any_fault firstGroup ≡ true
+  held_any : (n : ℕ) → Held first_group n → any_fault first_group ≡ true
   unfolding any_fault
   held_any n (Code02 h) = rw h
   held_any n (Code04 h) = rw (h, or-true)
   held_any n (Code09 h) = rw (h, or-true)
   held_any n (Code0B h) = rw (h, or-true)
 
-  any_held : {P : Type 0} → ((n : ℕ) → Held firstGroup n → P) → any_fault firstGroup ≡ true → P
+  any_held : {P : Type 0} → ((n : ℕ) → Held first_group n → P) → any_fault first_group ≡ true → P
   unfolding any_fault
   any_held f =
-      or_cases (firstGroup.command || firstGroup.memory || firstGroup.checksum) firstGroup.continuation
-      (or_cases (firstGroup.command || firstGroup.memory) firstGroup.checksum
-      (or_cases firstGroup.command firstGroup.memory (λ h. f 0x02 (Code02 h)) (λ h. f 0x04 (Code04 h)))
+      or_cases (first_group.command || first_group.memory || first_group.checksum) first_group.continuation
+      (or_cases (first_group.command || first_group.memory) first_group.checksum
+      (or_cases first_group.command first_group.memory (λ h. f 0x02 (Code02 h)) (λ h. f 0x04 (Code04 h)))
       (λ h. f 0x09 (Code09 h)))
       (λ h. f 0x0B (Code0B h))
 
-  pub fault_any : (n : ℕ) → FirstFault t p n → any_fault firstGroup ≡ true
+  pub fault_any : (n : ℕ) → FirstFault t p n → any_fault first_group ≡ true
   fault_any n f = held_any n (fault_held n f)
 
-  pub no_fault : any_fault firstGroup ≡ false → (n : ℕ) → FirstFault t p n → ⊥
+  pub no_fault : any_fault first_group ≡ false → (n : ℕ) → FirstFault t p n → ⊥
   no_fault h n f = never (sym h ∙ fault_any n f)
 
-  pub faultless_test : ((n : ℕ) → FirstFault t p n → ⊥) → any_fault firstGroup ≡ false
-  faultless_test h = bool_cases (any_fault firstGroup) (any_held (λ n k. absurd (h n (held_fault n k)))) (λ e. e)
+  pub faultless_test : ((n : ℕ) → FirstFault t p n → ⊥) → any_fault first_group ≡ false
+  faultless_test h = bool_cases (any_fault first_group) (any_held (λ n k. absurd (h n (held_fault n k)))) (λ e. e)
 
   -- the codes listed are those of the first group's faults
-  pub codes_exactly : (n : ℕ) → Memᴰ n (codes_of firstGroup) ↔ FirstFault t p n
-  codes_exactly n = (λ m. held_fault n (listed_held n m), λ f. held_listed firstGroup n (fault_held n f))
+  pub codes_exactly : (n : ℕ) → Memᴰ n (codes_of first_group) ↔ FirstFault t p n
+  codes_exactly n = (λ m. held_fault n (listed_held n m), λ f. held_listed first_group n (fault_held n f))
 
-  pub codes_some : any_fault firstGroup ≡ true → codes_of firstGroup ≡ [] → ⊥
-  codes_some h e = any_held (λ n k. Memᴰ.not-nil (subst (Memᴰ n) e (held_listed firstGroup n k))) h
+  pub codes_some : any_fault first_group ≡ true → codes_of first_group ≡ [] → ⊥
+  codes_some h e = any_held (λ n k. Memᴰ.not-nil (subst (Memᴰ n) e (held_listed first_group n k))) h

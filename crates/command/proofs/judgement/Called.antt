@@ -28,7 +28,7 @@ use Rattle.command.specs.declared.judgement.Judgement.{Judgement}
 use Rattle.command.specs.declared.judgement.Judgement.TheVariants.{Error, Hold, Write, Read}
 use Rattle.command.proofs.table.Laws.{known_code, same_eq}
 use Rattle.command.proofs.judgement.Laws.{judge_cases, unknown_fault}
-use Rattle.command.proofs.faults.Laws.{two_true, true_two, named, codes_ascending, same_ascending, firstGroup, codes_some, codes_exactly, no_fault, fault_any, faultless_test}
+use Rattle.command.proofs.faults.Laws.{two_true, true_two, named, codes_ascending, same_ascending, first_group, codes_some, codes_exactly, no_fault, fault_any, faultless_test}
 
 -- From a judgement to the faults: an error has the codes that the packet's faults call for.
 
@@ -65,7 +65,7 @@ module _ (mode : ℕ) (t : Transfer) (p : Arrived) where
   unfolding codes_of list_if size_of sum blocked
   calls =
       judge_cases (IfError (Draws mode t p)) mode t p
-      (λ h. FirstGroup (codes_of (firstGroup t p)) (codes_some t p h) (codes_ascending (firstGroup t p)) (codes_exactly t p))
+      (λ h. FirstGroup (codes_of (first_group t p)) (codes_some t p h) (codes_ascending (first_group t p)) (codes_exactly t p))
       (λ c e h.
       let none : (n : ℕ) → FirstFault t p n → ⊥ = no_fault t p (ap (λ (f : Found). any_fault (faults f t p)) e ∙ h) in
       let names : Names p.cmd1 p.cmd2 c = known_code p.cmd1 p.cmd2 c e in
@@ -93,7 +93,7 @@ module _ (mode : ℕ) (t : Transfer) (p : Arrived) where
   -- From the faults to the judgement.
 
   -- one of the first group holds
-  judged_first : any_fault (firstGroup t p) ≡ true → judge mode t p ≡ Error (firstGroup t p)
+  judged_first : any_fault (first_group t p) ≡ true → judge mode t p ≡ Error (first_group t p)
   unfolding judge
   judged_first h = go (command_of p.cmd1 p.cmd2) refl h
     where
@@ -132,12 +132,12 @@ module _ (mode : ℕ) (t : Transfer) (p : Arrived) where
   judged_called : (codes : List ℕ) → Draws mode t p codes → IsError (judge mode t p) codes
   judged_called codes (FirstGroup _ some up exactly) =
       subst (IsError (judge mode t p))
-      (same_ascending (codes_of (firstGroup t p)) codes 0 (codes_ascending (firstGroup t p)) up
+      (same_ascending (codes_of (first_group t p)) codes 0 (codes_ascending (first_group t p)) up
       (λ n m. (exactly n).1 ((codes_exactly t p n).0 m))
       (λ n m. (codes_exactly t p n).1 ((exactly n).0 m)))
-      (is_error (firstGroup t p) (judged_first (one codes some exactly)))
+      (is_error (first_group t p) (judged_first (one codes some exactly)))
     where
-      one : (l : List ℕ) → (l ≡ [] → ⊥) → ((n : ℕ) → Memᴰ n l ↔ FirstFault t p n) → any_fault (firstGroup t p) ≡ true
+      one : (l : List ℕ) → (l ≡ [] → ⊥) → ((n : ℕ) → Memᴰ n l ↔ FirstFault t p n) → any_fault (first_group t p) ≡ true
       one [] s x = absurd (s refl)
       one (n ∷ l) s x = fault_any t p n ((x n).0 (Memᴰ.head refl))
   judged_called _ (Alone n none f l) = later_judged none f n l

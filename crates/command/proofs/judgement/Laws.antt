@@ -145,19 +145,19 @@ write_parsed c mode d =
 
 -- a packet, by the controller's numbers
 module _ (mode : ℕ) (t : TransferState) (header : List ℕ) (right : Bool) (buffer body : List ℕ) (r : transfer_in_rule t ≡ true) (n : length buffer ≡ 1024) (f : Found) where
-  abbrev pub codesBy : Codes
-  codesBy = faults_of f (is_open_in t) (open_for_in f t) (held_in t) (type_of header) (flags_of header) (payload_length header) right
+  abbrev pub codes_by : Codes
+  codes_by = faults_of f (is_open_in t) (open_for_in f t) (held_in t) (type_of header) (flags_of header) (payload_length header) right
 
-  codes_are : faults f (transfer_in t buffer) (packet_in header right body) ≡ codesBy
+  codes_are : faults f (transfer_in t buffer) (packet_in header right body) ≡ codes_by
   codes_are = faults_are t r buffer n f (packet_in header right body)
 
   module _ (e : f ≡ command_of (cmd1_of header) (cmd2_of header)) where
-    pub judge_unknown : f ≡ Unknown → Error codesBy ≡ judge mode (transfer_in t buffer) (packet_in header right body)
+    pub judge_unknown : f ≡ Unknown → Error codes_by ≡ judge mode (transfer_in t buffer) (packet_in header right body)
     unfolding judge judge_as
     judge_unknown u = rw (← e, u) (ap Error (sym (rw u at codes_are)))
 
     pub judge_known : (c : Command) → f ≡ Known c
-        → cond (any_fault codesBy) (Error codesBy) (judge_data c mode (type_of header) (flags_of header) (take (held_in t) buffer ++ body))
+        → cond (any_fault codes_by) (Error codes_by) (judge_data c mode (type_of header) (flags_of header) (take (held_in t) buffer ++ body))
         ≡ judge mode (transfer_in t buffer) (packet_in header right body)
     unfolding judge judge_as
     judge_known c k = rw (← e, k, rw k at codes_are, held_is t r buffer)

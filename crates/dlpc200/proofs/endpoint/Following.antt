@@ -2,7 +2,7 @@
 use Rattle.std.proofs.Common.{◌≡◌, ℕ, suc, ◌+◌, ◌-◌, ◌≤◌, false, ltb, List, [], ◌∷◌, ◌++◌, length, take, drop, sym, refl, ap, ◌∙◌, subst, ap₂, arith, length-append, length-drop, length-take-le, get_or-take, take_at, drop_at, ltb-false}
 use mathlib.Core.Option.{some}
 use lib.Seq.{sets}
-use Rattle.packet.specs.Packet.{payload_length, payload, checksum as packetChecksum}
+use Rattle.packet.specs.Packet.{payload_length, payload, checksum as packet_checksum}
 use Rattle.packet.specs.Stream.{size, has_packet, packets}
 use Rattle.packet.specs.Calls.{Served, and_then, calls_on, served_one}
 use Rattle.packet.proofs.Cases.{bool_cases}
@@ -10,7 +10,7 @@ use Rattle.packet.proofs.BytesLaws.{sets_get}
 use Rattle.packet.proofs.StreamLaws.{IsPacket, packets_cons, rest_cons, packets_none, rest_none, packet_induction}
 use Rattle.packet.proofs.Calls.{same_calls, at_once}
 use Rattle.packet.specs.Writer.{written}
-use Rattle.packet.specs.Receiver.{Receiver as PacketReceiver, Received, with, waiting as packetWaiting}
+use Rattle.packet.specs.Receiver.{Receiver as PacketReceiver, Received, with, waiting as packet_waiting}
 use Rattle.packet.proofs.ReceiverLaws.{Between, after_packet, right_from, one, first_of, too_few}
 use Rattle.dlpc200.specs.Packet.{after_cmd4, checksum, right_sum}
 use Rattle.dlpc200.specs.Device.{receiver_of, device_of}
@@ -53,7 +53,7 @@ module _ (p : List ℕ) (i : IsPacket p) (hold : List ℕ) (m : length hold ≡ 
 
 -- its checksum is right where that over everything after CMD4 is
 same_right : (p : List ℕ) → right_from after_cmd4 p ≡ right_sum p
-unfolding right_sum checksum packetChecksum
+unfolding right_sum checksum packet_checksum
 same_right p = refl
 
 -- the packet complete in a receiver is that of the header and the data that it holds
@@ -87,7 +87,7 @@ module _ (out : List ℕ) (l : 64 ≤ length out) where
   Claim b = (d : Device) → Boundary d → Follows d b (served_one (serves out) d b)
 
   follows_none : (b : List ℕ) → has_packet b ≡ false → Claim b
-  unfolding served_one calls_on responses after packetWaiting
+  unfolding served_one calls_on responses after packet_waiting
   follows_none b h d z =
       let k = z.ready in
       let q = between d z in

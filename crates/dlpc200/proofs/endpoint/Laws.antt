@@ -3,7 +3,7 @@ use Rattle.std.proofs.Common.{◌≡◌, ℕ, ◌+◌, ◌-◌, ◌<◌, ◌≤�
 use mathlib.Core.Option.{none, some}
 use lib.Seq.{sets, length-sets}
 use Rattle.packet.specs.Packet.{payload_length}
-use Rattle.packet.specs.Receiver.{Receiver as PacketReceiver, Received, running_with, with, missing, waiting as packetWaiting, completed, receiving as packetReceiving, packet_in_rule}
+use Rattle.packet.specs.Receiver.{Receiver as PacketReceiver, Received, running_with, with, missing, waiting as packet_waiting, completed, receiving as packet_receiving, packet_in_rule}
 use Rattle.packet.specs.Writer.{written}
 use Rattle.packet.proofs.Cases.{lt_cases, and_left, and_right, and_both}
 use Rattle.packet.proofs.ReceiverLaws.{running_anew, with_nil, hold_length, missing_least, after, cut, behind, waits, completes}
@@ -61,7 +61,7 @@ module _ (d : Device) (b out : List ℕ) (k : Ready d) (l : 64 ≤ length out) w
   wanted = missing (receiver_of d) b
 
   call_waits : length b < wanted → receive_call d b out ≡ record { answer = Waits (length b); device = device_after d b; output = out }
-  unfolding packetWaiting
+  unfolding packet_waiting
   call_waits h = not_refused d b out k.rule l ∙ ap (λ (t : Received). ended d.states t out) (waits after_cmd4 (receiver_of d) b h)
 
   call_answers : wanted ≤ length b → receive_call d b out ≡ answered d.states (completed after_cmd4 (receiver_of d) b wanted) out
@@ -117,8 +117,8 @@ module _ (q : PacketReceiver) (n : ℕ) (l : q.received ≤ after_cmd4) where
       sym (running_anew after_cmd4 q.received n b (omega arith) l refl) ∙ running_anew after_cmd4 q.received q.running b (omega arith) l refl in
       rw e
 
-  waiting_anew : (b : List ℕ) → after_cmd4 < q.received + length b → packetWaiting after_cmd4 (other_sum q n) b ≡ packetWaiting after_cmd4 q b
-  unfolding packetWaiting
+  waiting_anew : (b : List ℕ) → after_cmd4 < q.received + length b → packet_waiting after_cmd4 (other_sum q n) b ≡ packet_waiting after_cmd4 q b
+  unfolding packet_waiting
   waiting_anew b m = rw (with_anew b m)
 
   -- before the checksum stands the length at least
@@ -134,7 +134,7 @@ module _ (q : PacketReceiver) (n : ℕ) (l : q.received ≤ after_cmd4) where
   unfolding missing
   missing_anew b = refl
 
-  receiving_anew : (b : List ℕ) → after_cmd4 < q.received + length b → packetReceiving after_cmd4 (other_sum q n) b ≡ packetReceiving after_cmd4 q b
+  receiving_anew : (b : List ℕ) → after_cmd4 < q.received + length b → packet_receiving after_cmd4 (other_sum q n) b ≡ packet_receiving after_cmd4 q b
   receiving_anew b m =
       lt_cases (length b) (missing q b)
       (λ h. waits after_cmd4 (other_sum q n) b (omega (arith, missing_anew b)) ∙ waiting_anew b m ∙ sym (waits after_cmd4 q b h))

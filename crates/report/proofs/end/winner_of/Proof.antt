@@ -12,17 +12,17 @@ use Rattle.report.proofs.end.winner_of.Tie as tie
 abbrev start_of : tie.After-word-at → tie.Start
 start_of c = c.before.before.before.before.before
 
-abbrev reportIn : tie.Start → List ℕ
-reportIn s = s.args.r.now
+abbrev report_in : tie.Start → List ℕ
+report_in s = s.args.r.now
 
 found-winner : (c : tie.After-enum-told)
     → let s = c.before.before.before.before in
-    RecordIs (reportIn s) 3 s.args.at c.enum_told.given.0.0
+    RecordIs (report_in s) 3 s.args.at c.enum_told.given.0.0
 found-winner c = found c.enum_told.given.1 c.before.before.record-at.ensures
 
 found-shipping : (c : tie.After-shipping)
     → let s = start_of c.before.before.before.before in
-    RecordIs (reportIn s) 4 (s.args.at + 6) c.shipping.given.0.0
+    RecordIs (report_in s) 4 (s.args.at + 6) c.shipping.given.0.0
 found-shipping c = found c.shipping.given.1 c.before.before.record-at2.ensures
 
 returns : tie.Need-returns
@@ -31,16 +31,16 @@ returns c =
     let s = p.before.before in
     let a = s.args in
     let o = c.enum-told2.given in
-    end_no (reportIn s) a.at a.count a.best o.1
-    (winner_missed (reportIn s) a.at a.count a.best (missed (reportIn s) 3 a.at o.1 p.record-at.ensures))
+    end_no (report_in s) a.at a.count a.best o.1
+    (winner_missed (report_in s) a.at a.count a.best (missed (report_in s) 3 a.at o.1 p.record-at.ensures))
 
 returns-2 : tie.Need-returns-2
 returns-2 c =
     let w = c.before.before in
     let s = start_of w in
     let a = s.args in
-    end_no (reportIn s) a.at a.count a.best c.refusal.ensures
-    (end_16 (reportIn s) a.at a.count a.best (found-winner w.before) w.word_at.ensures.0 c.before.if1.true)
+    end_no (report_in s) a.at a.count a.best c.refusal.ensures
+    (end_16 (report_in s) a.at a.count a.best (found-winner w.before) w.word_at.ensures.0 c.before.if1.true)
 
 returns-3 : tie.Need-returns-3
 returns-3 c =
@@ -50,8 +50,8 @@ returns-3 c =
     let s = start_of w in
     let a = s.args in
     let o = c.enum-told3.given in
-    end_no (reportIn s) a.at a.count a.best o.1
-    (shipping_missed (reportIn s) a.at a.count a.best (found-winner w.before) w.word_at.ensures.0 t.if1.false (missed (reportIn s) 4 (a.at + 6) o.1 p.record-at2.ensures))
+    end_no (report_in s) a.at a.count a.best o.1
+    (shipping_missed (report_in s) a.at a.count a.best (found-winner w.before) w.word_at.ensures.0 t.if1.false (missed (report_in s) 4 (a.at + 6) o.1 p.record-at2.ensures))
 
 returns-4 : tie.Need-returns-4
 returns-4 c =
@@ -60,8 +60,8 @@ returns-4 c =
     let w = t.before in
     let s = start_of w in
     let a = s.args in
-    end_no (reportIn s) a.at a.count a.best c.refusal2.ensures
-    (end_20 (reportIn s) a.at a.count a.best (found-winner w.before) w.word_at.ensures.0 t.if1.false (found-shipping h) c.before.if2.true)
+    end_no (report_in s) a.at a.count a.best c.refusal2.ensures
+    (end_20 (report_in s) a.at a.count a.best (found-winner w.before) w.word_at.ensures.0 t.if1.false (found-shipping h) c.before.if2.true)
 
 returns-5 : tie.Need-returns-5
 returns-5 c =
@@ -71,7 +71,7 @@ returns-5 c =
     let w = t.before in
     let s = start_of w in
     let a = s.args in
-    end_17 (reportIn s) a.at a.count a.best (found-winner w.before) w.word_at.ensures.0 t.if1.false (found-shipping h) e.if2.false c.refusal3.ensures c.before.if3.true
+    end_17 (report_in s) a.at a.count a.best (found-winner w.before) w.word_at.ensures.0 t.if1.false (found-shipping h) e.if2.false c.refusal3.ensures c.before.if3.true
 
 returns-6 : tie.Need-returns-6
 returns-6 c =
@@ -81,7 +81,7 @@ returns-6 c =
     let w = t.before in
     let s = start_of w in
     let a = s.args in
-    end_is (reportIn s) a.at a.count a.best (found-winner w.before) w.word_at.ensures.0 t.if1.false (found-shipping h) e.if2.false c.if3.false
+    end_is (report_in s) a.at a.count a.best (found-winner w.before) w.word_at.ensures.0 t.if1.false (found-shipping h) e.if2.false c.if3.false
 
 pub winner_of_spec : {M : Type 1} → statement M
 winner_of_spec =

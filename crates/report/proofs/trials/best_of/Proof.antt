@@ -19,13 +19,13 @@ invariant-loop r count start last₀ best₀ at₀ trial₀ lowest₀ i₀ last 
 abbrev decreases-loop : tie.decreases-loop
 decreases-loop r count start last₀ best₀ at₀ trial₀ lowest₀ i₀ last best at trial lowest i = count - i
 
-abbrev reportIn : tie.At-loop invariant-loop decreases-loop → List ℕ
-reportIn l = l.before.before.before.args.r.now
+abbrev report_in : tie.At-loop invariant-loop decreases-loop → List ℕ
+report_in l = l.before.before.before.args.r.now
 
 -- the trial of a turn
 found-trial : (c : tie.After-due invariant-loop decreases-loop)
     → let l = c.before.before.before.before in
-    RecordIs (reportIn l) 2 l.loop.at c.due.given.0.0
+    RecordIs (report_in l) 2 l.loop.at c.due.given.0.0
 found-trial c = found c.due.given.1 c.before.before.record-at.ensures
 
 loop-holds : tie.Need-loop-init invariant-loop decreases-loop
@@ -38,8 +38,8 @@ returns c =
     let o = c.enum_told.given in
     let p = c.before.before in
     let l = p.before.before in
-    subst (λ (x : Outcome). BestAt (reportIn l) l.before.before.before.args.count x 0 0 l.before.factory.result) (sym o.1)
-    (walked_missed l.loop.invariant.1 p.before.loop-test.true (missed (reportIn l) 2 l.loop.at o.1 p.record-at.ensures))
+    subst (λ (x : Outcome). BestAt (report_in l) l.before.before.before.args.count x 0 0 l.before.factory.result) (sym o.1)
+    (walked_missed l.loop.invariant.1 p.before.loop-test.true (missed (report_in l) 2 l.loop.at o.1 p.record-at.ensures))
 
 -- the packets of a trial stand from byte 8 of its record to its end
 inside : (c : tie.After-long-at invariant-loop decreases-loop)
@@ -55,7 +55,7 @@ again : (c : tie.Joined1 invariant-loop decreases-loop)
     → let p = c.before.before in
     let d = p.before.before.before.before in
     let l = d.before.before.before.before in
-    Walked (reportIn l) (l.loop.i + 1) (l.loop.at + 4 + d.due.given.0.0) p.play.result.settings c.if1.trial c.if1.lowest c.if1.best
+    Walked (report_in l) (l.loop.i + 1) (l.loop.at + 4 + d.due.given.0.0) p.play.result.settings c.if1.trial c.if1.lowest c.if1.best
 again c =
     let p = c.before.before in
     let g = p.before.before in

@@ -23,11 +23,11 @@ use Rattle.report.proofs.verdict.check.Statement.{statement}
 use Rattle.report.proofs.verdict.check.Tie as tie
 
 -- the report, whose elements are bytes
-abbrev reportIn : tie.After-shared-slice-known → List ℕ
-reportIn c = c.before.args.r.now
+abbrev report_in : tie.After-shared-slice-known → List ℕ
+report_in c = c.before.args.r.now
 
-all-bytes : (c : tie.After-shared-slice-known) → Bytes (reportIn c)
-all-bytes c = bytes_at (reportIn c) (λ i. (c.shared-slice-known.given i).fits)
+all-bytes : (c : tie.After-shared-slice-known) → Bytes (report_in c)
+all-bytes c = bytes_at (report_in c) (λ i. (c.shared-slice-known.given i).fits)
 
 -- the places of the calls before
 abbrev start : tie.After-head → tie.After-shared-slice-known
@@ -40,30 +40,30 @@ abbrev next_of : tie.After-enum-told3 → tie.After-next
 next_of d = d.before.before.before.before
 
 -- what each of the three calls read
-head_is : (h : tie.After-head) → HeadIs (reportIn (start h)) h.head.given.0.0
-head_is h = subst (HeadAt (reportIn (start h))) h.head.given.1 h.before.before.count_of.ensures
+head_is : (h : tie.After-head) → HeadIs (report_in (start h)) h.head.given.0.0
+head_is h = subst (HeadAt (report_in (start h))) h.head.given.1 h.before.before.count_of.ensures
 
 best-is : (n : tie.After-next)
     → let h = head_of n in
     let b = n.before.before.best_of.result in
-    BestIs (reportIn (start h)) h.head.given.0.0 n.next.given.0.0 b.trial b.score b.settings
+    BestIs (report_in (start h)) h.head.given.0.0 n.next.given.0.0 b.trial b.score b.settings
 best-is n =
     let h = head_of n in
     let b = n.before.before.best_of.result in
-    subst (λ (o : Outcome). BestAt (reportIn (start h)) h.head.given.0.0 o b.trial b.score b.settings) n.next.given.1 n.before.before.best_of.ensures
+    subst (λ (o : Outcome). BestAt (report_in (start h)) h.head.given.0.0 o b.trial b.score b.settings) n.next.given.1 n.before.before.best_of.ensures
 
 winner-is : (d : tie.After-enum-told3)
     → let n = next_of d in
     let h = head_of n in
-    WinnerIs (reportIn (start h)) n.next.given.0.0 h.head.given.0.0 n.before.before.best_of.result.trial d.enum-told3.given.0.0
+    WinnerIs (report_in (start h)) n.next.given.0.0 h.head.given.0.0 n.before.before.best_of.result.trial d.enum-told3.given.0.0
 winner-is d =
     let n = next_of d in
     let h = head_of n in
-    subst (WinnerAt (reportIn (start h)) n.next.given.0.0 h.head.given.0.0 n.before.before.best_of.result.trial) d.enum-told3.given.1 d.before.before.winner-of.ensures
+    subst (WinnerAt (report_in (start h)) n.next.given.0.0 h.head.given.0.0 n.before.before.best_of.result.trial) d.enum-told3.given.1 d.before.before.winner-of.ensures
 
 -- kind 4 begins inside the report, which is short
 room : (d : tie.After-enum-told3)
-    → let r = reportIn (start (head_of (next_of d))) in
+    → let r = report_in (start (head_of (next_of d))) in
     ((next_of d).next.given.0.0 + 10 ≤ length r) × (length r ≤ 60000)
 room d = ((winner-is d).within, (head_is (head_of (next_of d))).short)
 
@@ -71,7 +71,7 @@ room d = ((winner-is d).within, (head_is (head_of (next_of d))).short)
 abbrev ship : tie.After-play → List ℕ
 ship c =
     let n = next_of c.before.before.before in
-    ship_in (reportIn (start (head_of n))) n.next.given.0.0
+    ship_in (report_in (start (head_of n))) n.next.given.0.0
 
 played : (c : tie.After-play) → (c.play.result.settings ≡ (play factory (ship c)).settings) × (place_of c.play.result.offence ≡ offence factory (ship c))
 played c =
@@ -90,7 +90,7 @@ offends-within c =
     let q = c.before.before in
     let d = q.before.before.before in
     let n = (stands_there factory (ship q) _ ((earliest_named factory (ship q) _).0 (offends-at c)).offends).1 in
-    let r = reportIn (start (head_of (next_of d))) in
+    let r = report_in (start (head_of (next_of d))) in
     let at = (next_of d).next.given.0.0 in
     omega (arith, n, room d, length-take (length r - (at + 6 + 4)) (drop (at + 6 + 4) r), length-drop (at + 6 + 4) r)
 
@@ -110,7 +110,7 @@ returns : tie.Need-returns
 returns c =
     let o = c.before.enum_told.given in
     let k = c.before.before.before in
-    let r = reportIn k.before in
+    let r = report_in k.before in
     promised_no r (all-bytes k.before) (head_no r (subst (HeadAt r) o.1 k.count_of.ensures)) c.refused.ensures o.1
 
 returns-2 : tie.Need-returns-2
@@ -118,7 +118,7 @@ returns-2 c =
     let o = c.before.enum-told2.given in
     let t = c.before.before.before in
     let h = t.before.before in
-    let r = reportIn (start h) in
+    let r = report_in (start h) in
     let b = t.best_of.result in
     promised_no r (all-bytes (start h))
     (trials_no r (head_is h) (subst (λ (x : Outcome). BestAt r h.head.given.0.0 x b.trial b.score b.settings) o.1 t.best_of.ensures)) c.refused2.ensures o.1
@@ -129,7 +129,7 @@ returns-3 c =
     let w = c.before.before.before in
     let n = w.before.before in
     let h = head_of n in
-    let r = reportIn (start h) in
+    let r = report_in (start h) in
     promised_no r (all-bytes (start h))
     (winner_no r (head_is h) (best-is n) (subst (WinnerAt r n.next.given.0.0 h.head.given.0.0 n.before.before.best_of.result.trial) o.1 w.winner-of.ensures)) c.refused3.ensures o.1
 
@@ -140,7 +140,7 @@ returns-4 c =
     let d = q.before.before.before in
     let n = next_of d in
     let h = head_of n in
-    let r = reportIn (start h) in
+    let r = report_in (start h) in
     let ten : n.next.given.0.0 + 6 + 4 ≡ n.next.given.0.0 + 10 = omega arith in
     promised_no r (all-bytes (start h)) (refused_18 r (head_is h) (best-is n) (winner-is d) (offends-at o)) c.refused4.ensures (rw ten at c.before.refusal.ensures)
 
@@ -151,7 +151,7 @@ returns-5 c =
     let d = i.before.before.before.before.before in
     let n = next_of d in
     let h = head_of n in
-    let r = reportIn (start h) in
+    let r = report_in (start h) in
     promised_no r (all-bytes (start h)) (refused_19 r (head_is h) (best-is n) (winner-is d) (clean-yes i) (compared m ∙ not-true m.same-settings.result c.before.before.if1.true))
     c.refused5.ensures c.before.refusal2.ensures
 
@@ -162,7 +162,7 @@ returns-6 c =
     let d = i.before.before.before.before.before in
     let n = next_of d in
     let h = head_of n in
-    let r = reportIn (start h) in
+    let r = report_in (start h) in
     promised_yes r (all-bytes (start h)) (accepted_with r (head_is h) (best-is n) (winner-is d) (clean-yes i) (compared m ∙ not-false m.same-settings.result c.if1.false)) d.enum-told3.given.1
 
 pub check_spec : {M : Type 1} → statement M
