@@ -83,6 +83,7 @@ impl Controller {
     };
 
     // A head at power-up: factory values, nothing half received and no transfer open.
+    #[tactic(auto, unfolding(crate::specs::Settings::factory, crate::specs::Controller::zeros))]
     pub fn fresh() -> Controller
         ensures { result ≡ fresh_of }
     {

@@ -112,6 +112,7 @@ impl Codes {
     }
 
     // The codes as one number: bit n is code n.
+    #[tactic(auto, unfolding(crate::specs::Ruling::mask_of))]
     pub(crate) fn mask(self) -> u16
         ensures { result ≡ mask_of self }
     {
@@ -129,6 +130,7 @@ impl Codes {
     }
 
     // The codes that such a number says.
+    #[tactic(auto, unfolding(crate::specs::Ruling::codes_told))]
     pub(crate) fn told(mask: u16) -> Codes
         ensures { result ≡ codes_told mask }
     {
@@ -166,6 +168,7 @@ impl Codes {
     }
 
     // A fault of the first group holds.
+    #[tactic(auto, unfolding(crate::specs::Faults::any_fault))]
     pub(crate) fn first_group(self) -> bool
         ensures { result ≡ any_fault self }
     {
@@ -174,6 +177,7 @@ impl Codes {
 }
 
 // 02: the type is neither write nor read, the command is not in the table, or it cannot be read.
+#[tactic(auto, unfolding(crate::specs::Faults::wrong_command))]
 fn wrong_command(found: Found, kind: u8) -> bool
     ensures { result ≡ wrong_command found kind }
 {
@@ -185,6 +189,7 @@ fn wrong_command(found: Found, kind: u8) -> bool
 }
 
 // 04: the payload alone, or with the bytes that are held, is more than the hold has room for.
+#[tactic(auto, unfolding(crate::specs::Faults::too_long))]
 fn too_long(active: bool, held: usize, flags: u8, size: usize) -> bool
     requires { (held ≤ 1024) × (size < 65536) }
     ensures { result ≡ too_long active held flags size }
@@ -196,6 +201,7 @@ fn too_long(active: bool, held: usize, flags: u8, size: usize) -> bool
 }
 
 // 0B: the flags do not go with the type or with the open transfer.
+#[tactic(auto, unfolding(crate::specs::Faults::wrong_order))]
 fn wrong_order(active: bool, ours: bool, kind: u8, flags: u8) -> bool
     ensures { result ≡ wrong_order active ours kind flags }
 {

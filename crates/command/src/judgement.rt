@@ -61,6 +61,7 @@ fn judge_write(c: Command, mode: u8, held: &[u8], payload: &[u8]) -> Judgement
 }
 
 // A read has no request data.
+#[tactic(auto, unfolding(crate::specs::Judgement::judge_read))]
 fn judge_read(c: Command, n: usize) -> Judgement
     ensures { result ≡ judge_read_of c n }
 {

@@ -444,6 +444,7 @@ pub(crate) fn allowed(v: Value) -> bool
 }
 
 // Run 1 outside display mode 4 (document 01; the guide has no such rule).
+#[tactic(auto, unfolding(crate::specs::Rules::blocked))]
 pub(crate) fn blocked(v: Value, mode: u8) -> bool
     ensures { result ≡ blocked_in (command_in v) (values_in v) mode }
 {

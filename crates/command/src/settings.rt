@@ -154,6 +154,7 @@ impl Settings {
     };
 
     // The factory values.
+    #[tactic(auto, unfolding(crate::specs::Settings::factory))]
     pub fn factory() -> Settings
         ensures { result ≡ factory_of }
     {
@@ -197,6 +198,7 @@ pub fn value_of(s: Settings, c: Command) -> Value
 }
 
 // The settings after a write. Leaving the mode of sequences stops a running one.
+#[tactic(auto, unfolding(crate::specs::Settings::store, crate::specs::Settings::values_after))]
 pub(crate) fn stored(s: Settings, v: Value) -> Settings
     ensures { result ≡ store_in (command_in v) (values_in v) s }
 {

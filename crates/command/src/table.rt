@@ -64,6 +64,7 @@ impl Found {
 
 impl Command {
     // The command of these bytes.
+    #[tactic(auto, unfolding(crate::specs::Table::command_of, crate::specs::Table::find))]
     pub fn find(cmd1: u8, cmd2: u8) -> Found
         ensures { result ≡ command_of cmd1 cmd2 }
     {

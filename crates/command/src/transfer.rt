@@ -34,6 +34,7 @@ impl TransferState {
 
     // No more bytes are held than the hold has room for, and an open transfer is for a command of
     // the table.
+    #[tactic(auto, unfolding(crate::specs::Controller::transfer_in_rule))]
     pub(crate) fn in_rule(self) -> bool
         ensures { result ≡ transfer_in_rule self }
     {
