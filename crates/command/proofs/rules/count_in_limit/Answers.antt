@@ -5,11 +5,9 @@ use mathlib.Core.Logic.{◌↔◌}
 use native.Mathlib.Nat.{le-div_iff_mul-le, mul-le-mul, suc-mul}
 use native.Mathlib.Omega.{arith}
 use lib.Dec.{leb}
-use borrow.Author.Rules.{rules}
 use borrow.Author.Tests.{leb-true, leb-false, le-leb}
 use Rattle.packet.proofs.Cases.{bool_cases}
 use Rattle.command.specs.Rules.{most_patterns}
-
 use Rattle.command.proofs.rules.count_in_limit.Goals as goal
 
 -- what the product is held to
@@ -37,8 +35,8 @@ tested depth count h =
 product : (m n : ℕ) → m < 256 → n < 256 → m * n < 65536
 product m n a b = let p = mul-le-mul {n₁ = m} {m₁ = n} {n₂ = 255} {m₂ = 255} (omega arith) (omega arith) in omega arith
 
-pub overflow_mul : goal.overflow_mul
-overflow_mul c = record { fits = omega (arith, product c.args.count c.args.depth c.ranges.count.fits c.ranges.depth.fits) }
+pub overflow_mul-result : goal.overflow_mul-result
+overflow_mul-result c = record { fits = omega (arith, product c.args.count c.args.depth c.ranges.count.fits c.ranges.depth.fits) }
 
 pub returns : goal.returns
 returns c h = tested c.args.depth c.args.count h
