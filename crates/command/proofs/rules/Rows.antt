@@ -60,7 +60,10 @@ wrong_row {t} e f = sym e ∙ not-true t f
 pub right_row : {t A : Bool} → t ≡ A → not t ≡ false → A ≡ true
 right_row {t} e f = sym e ∙ not-false t f
 
--- Where one test follows another by `&&`: t is what the tests before say, whose rule is A, and f what comes out. On one way t holds and the next test decides, by its rule B; on the other t fails and stands.
-pub meets : {t f A B : Bool} {X Y : Type 0} → t ≡ A → (X → (t ≡ true) × (f ≡ B)) → (Y → (t ≡ false) × (f ≡ t)) → X ⊎ Y → f ≡ (A && B)
-meets e g h (inl x) = let w = g x in rw (sym e ∙ w.0) w.1
-meets e g h (inr y) = let w = h y in rw (sym e ∙ w.0) (w.1 ∙ w.0)
+-- Where one test follows another by `&&`: t is what the tests before say, whose rule is A, and f what comes out. Where t holds, the next test decides, by its rule B;
+pub goes_on : {t f A B : Bool} → t ≡ A → t ≡ true → f ≡ B → f ≡ (A && B)
+goes_on e h g = rw (sym e ∙ h) g
+
+-- where t fails, it stands
+pub ends_there : {t f A : Bool} (B : Bool) → t ≡ A → t ≡ false → f ≡ t → f ≡ (A && B)
+ends_there B e h g = rw (sym e ∙ h) (g ∙ h)

@@ -15,6 +15,6 @@ returns c =
       c.too_long.ensures,
       c.wrong_order.ensures,
       c.held-held.ensures,
-      c.open_for.ensures,
+      c.open_for-ours.ensures,
       c.word.ensures.0,
     )
