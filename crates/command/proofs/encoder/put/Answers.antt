@@ -4,4 +4,4 @@ use Rattle.command.proofs.encoder.put.Goals as goal
 
 pub returns : goal.returns
 unfolding encoded write_packet
-returns c = rw (c.code.ensures.0, c.code.ensures.1, c.command.ensures, c.data_of.ensures.bytes) at c.emit.ensures
+returns c = rw (c.code-code.ensures.0, c.code-code.ensures.1, c.command.ensures, c.data_of.ensures.bytes) at c.emit.ensures

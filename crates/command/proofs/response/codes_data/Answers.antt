@@ -33,15 +33,15 @@ returns c =
       bytes =
           listed c.args.k
           c.put_code-n.ensures.0
-          c.put_code.ensures.0
-          c.put_code-2.ensures.0
-          c.put_code-3.ensures.0
-          c.put_code-4.ensures.0
-          c.put_code-5.ensures.0
-          c.put_code-6.ensures.0
-          c.put_code-7.ensures.0
-          c.put_code-8.ensures.0
-          c.put_code-9.ensures.0
-          c.put_code-10.ensures.0;
-      room = ?;
+          c.put_code-n-2.ensures.0
+          c.put_code-n-3.ensures.0
+          c.put_code-n-4.ensures.0
+          c.put_code-n-5.ensures.0
+          c.put_code-n-6.ensures.0
+          c.put_code-n-7.ensures.0
+          c.put_code-n-8.ensures.0
+          c.put_code-n-9.ensures.0
+          c.put_code-n-10.ensures.0
+          c.put_code-n-11.ensures.0;
+      room = omega arith;
     }

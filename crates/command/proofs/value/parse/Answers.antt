@@ -41,7 +41,7 @@ pub returns : goal.returns
 returns c =
     let a = c.args in
     let sized : length (a.held.now ++ a.payload.now) ≡ total (layout a.c) = length-append a.held.now a.payload.now ∙ c.if-held-payload.false ∙ c.size.ensures in
-    let d = c.joined.result in
+    let d = c.joined-d.result in
     -- the joined data
-    let both : length (contents d) ≡ total (layout a.c) = ap length c.joined.ensures.0 ∙ sized in
-    rw (← c.joined.ensures.0) (right_size a.c (contents d) both c.from-2.ensures)
+    let both : length (contents d) ≡ total (layout a.c) = ap length c.joined-d.ensures.0 ∙ sized in
+    rw (← c.joined-d.ensures.0) (right_size a.c (contents d) both c.from-2.ensures)
