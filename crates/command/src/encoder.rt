@@ -28,7 +28,7 @@ pub enum Encoded {
     OutOfRule,
 }
 
-// The whole_packet write of a value.
+// The whole-packet write of a value.
 fn put(out: &mut [u8], v: Value) -> usize
     requires { 24 ≤ length out.old }
     ensures { (result ≡ length (encoded v)) × (out.new ≡ written (encoded v) out.old) }
@@ -65,7 +65,7 @@ pub fn encode(v: Value, out: &mut [u8]) -> Encoded
     Encoded::Length(put(out, v))
 }
 
-// One whole_packet write for each command, in table order: played from factory values they bring
+// One whole-packet write for each command, in table order: played from factory values they bring
 // a head to these settings.
 pub fn standard_list(s: Settings, out: &mut [u8]) -> Encoded
     ensures { (outcome_of result ≡ (list_call s out.old).answer) × (out.new ≡ (list_call s out.old).output) }
