@@ -1,5 +1,5 @@
 -- `Command::find` meets its contract: the arms are the table's lines.
-use Rattle.std.proofs.Common.{ne_eqb}
+use Rattle.std.proofs.Common.{arith, ne_eqb}
 use Rattle.dlpc200.specs.Table.{find, command_of}
 use Rattle.dlpc200.proofs.table.Command.find.Goals as goal
 
@@ -36,13 +36,12 @@ pub returns-in_default : goal.returns-in_default
 unfolding command_of find
 returns-in_default c =
     let i = c.args.id in
-    let n = c.in_default in
     rw (
-      ne_eqb i 0x05 n.0,
-      ne_eqb i 0x06 n.1,
-      ne_eqb i 0x15 n.2,
-      ne_eqb i 0x16 n.3,
-      ne_eqb i 0x17 n.4,
-      ne_eqb i 0x29 n.5,
-      ne_eqb i 0x2A n.6,
+      ne_eqb i 0x05 (omega arith),
+      ne_eqb i 0x06 (omega arith),
+      ne_eqb i 0x15 (omega arith),
+      ne_eqb i 0x16 (omega arith),
+      ne_eqb i 0x17 (omega arith),
+      ne_eqb i 0x29 (omega arith),
+      ne_eqb i 0x2A (omega arith),
     )
