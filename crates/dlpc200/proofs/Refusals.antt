@@ -1,5 +1,5 @@
 -- When the receive call refuses: the tests are the words of ticket 1, and a refusal touches nothing lent.
-use Rattle.std.proofs.Common.{◌≡◌, ℕ, ◌+◌, Bool, true, false, cond, ◌&&◌, ltb, leb, ◌↔◌, List, length, refl, arith, ltb-false, le-ltb, leb-false}
+use Rattle.std.proofs.Common.{◌≡◌, ℕ, ◌+◌, false, cond, ◌&&◌, ltb, leb, ◌↔◌, List, length, refl, arith, ltb-false, le-ltb, leb-false}
 use mathlib.Core.Bool.{and-false}
 use borrow.Author.Tests.{lt-leb}
 use Rattle.packet.specs.Packet.{payload_length}

@@ -10,7 +10,7 @@ use packet::HEADER;
 
 // Each field is as wide as the room up to the next one: a record that is lent has no holes.
 #[repr(C)]
-#[derive(Drop)]
+#[derive(Clone, Copy)]
 pub struct Device {
     // How many bytes of the current packet have come in. Between two packets it is 0, and header and
     // hold are those of the last packet.

@@ -11,7 +11,7 @@ use crate::table::{Command, Found};
 use packet::HEADER;
 
 // What a complete packet comes to.
-#[derive(Drop)]
+#[derive(Clone, Copy)]
 pub(crate) enum Judgement {
     // The packet failed, with these faults; with none of them its command is unknown.
     Failed(Faults),

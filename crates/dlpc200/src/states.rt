@@ -6,7 +6,7 @@ ghost use Rattle.dlpc200.specs.States.{in_range, shown_of};
 use crate::table::Command;
 
 #[repr(C)]
-#[derive(Drop)]
+#[derive(Clone, Copy)]
 pub struct States {
     // 0015: 0 DMD park not requested by the software, 1 requested.
     pub park: u8,

@@ -17,7 +17,7 @@ const PROCESSING_FAILED: u8 = 0x40;
 const WRONG_DATA_SIZE: u8 = 0x08;
 
 // Every fault that holds of a packet.
-#[derive(Drop)]
+#[derive(Clone, Copy)]
 pub(crate) struct Faults {
     pub checksum: bool,
     pub cmd1: bool,

@@ -5,7 +5,7 @@ ghost use Rattle.dlpc200.specs.States.{park_after};
 
 use crate::header::{READ, WRITE};
 
-#[derive(Drop)]
+#[derive(Clone, Copy)]
 pub(crate) enum Command {
     ParkDmd,
     UnparkDmd,
@@ -17,7 +17,7 @@ pub(crate) enum Command {
 }
 
 // The command of an ID, if it is in the table.
-#[derive(Drop)]
+#[derive(Clone, Copy)]
 pub(crate) enum Found {
     Known(Command),
     Unknown,

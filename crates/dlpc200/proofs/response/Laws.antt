@@ -1,5 +1,5 @@
 -- Responses as they are written: the bytes stored, and the packet that they are.
-use Rattle.std.proofs.Common.{◌≡◌, ℕ, ◌+◌, ◌≤◌, true, ◌⊎◌, List, [], ◌∷◌, ◌++◌, length, take, drop, refl, ap, ◌∙◌, inl, inr, arith, eq-eqb}
+use Rattle.std.proofs.Common.{◌≡◌, ℕ, ◌≤◌, true, ◌⊎◌, List, [], ◌∷◌, ◌++◌, length, take, drop, refl, ap, ◌∙◌, inl, inr, arith, eq-eqb}
 use lib.Seq.{sets}
 use Rattle.packet.specs.Number.{bytes_of}
 use Rattle.packet.specs.Stream.{size}

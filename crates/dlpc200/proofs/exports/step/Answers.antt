@@ -1,0 +1,17 @@
+-- `step` meets its contract: that of `receive`, its answer told as numbers.
+use Rattle.packet.proofs.Answering.{numbers_say}
+use Rattle.dlpc200.specs.Endpoint.{receive_call}
+use Rattle.dlpc200.proofs.exports.Laws.{answer_sayable}
+use Rattle.dlpc200.proofs.exports.step.Goals as goal
+
+pub returns : goal.returns
+returns c =
+    let e = c.receive-s.ensures in
+    let a = c.args in
+    let told = rw e.0 at c.told-refusal.ensures in
+    record {
+      told = told;
+      says = numbers_say (receive_call a.device a.input.now a.out.now).answer (answer_sayable a.device a.input.now a.out.now) told;
+      leaves = e.1;
+      writes = e.2;
+    }
