@@ -1,9 +1,11 @@
-"""Checks changed copies of a crate, each over a copy of the incremental folder that the crate itself filled.
+"""Checks changed copies of a crate, each over a copy of the work that a check of the crate itself kept.
 
-A full check of a crate proves all of it again; over such a folder only what the change reaches is
-proved. The crate as it stands comes first, as control: it must be proved over the folder that it fills.
-What the checker says over an incremental folder is a working result, and no verdict: `rt ci` is that.
+A full check of a crate proves all of it again; over kept work only what the change reaches is proved. The
+crate as it stands comes first, as control: it must be proved over what it keeps. What the checker says over
+kept work is a working result, and no verdict: `rt ci` is that. The copies lie among the temporary files,
+since `rt ci` refuses a repository with a .rt or .antt file outside its crates.
 """
+import atexit
 import concurrent.futures
 import os
 import pathlib
@@ -11,18 +13,26 @@ import queue
 import re
 import shutil
 import subprocess
+import tempfile
 
 ROOT = pathlib.Path(__file__).resolve().parent.parent
-WORK = ROOT / "target" / "incremental"
-JOBS = int(os.environ.get("RT_JOBS", "2"))
+PARTS = ("src", "specs", "proofs")
 
 PROVED, REFUSED, UNFIT = "proved", "refused", "unfit"
 
+# what antt says where a text names something that is not there, or is no term at all
+UNREAD = r"is not in scope|has no field|is no name|operand is missing|expected the end|cannot continue"
 
-def not_proved(folder, names):
-    """What stands in a crate's own folder beside what is proved."""
-    beside = {"must-fail", "wrong", "data"} if pathlib.Path(folder).parent == ROOT / "crates" else set()
-    return beside & set(names)
+
+def jobs():
+    """How many checks run at a time: as many as there are processors, and as memory of 4 GB for each holds."""
+    if os.environ.get("RT_JOBS"):
+        return int(os.environ["RT_JOBS"])
+    free = re.search(r"MemAvailable:\s+(\d+) kB", pathlib.Path("/proc/meminfo").read_text())
+    return max(1, min(len(os.sched_getaffinity(0)), int(free[1]) // 4_000_000))
+
+
+JOBS = jobs()
 
 
 def first_error(log):
@@ -31,12 +41,14 @@ def first_error(log):
     return found.group() if found else ""
 
 
-def misfit(log):
-    """The proof no longer fits the code, so that the refusal says nothing of a promise. `function-is` compares
-    a function with the walk of its code by hand."""
-    first = first_error(log)
-    message = log[log.find(first):].split(": error", 2)
-    return re.search(r"has no `Need-|has no field|`function-is`", ": error".join(message[:2])) is not None
+def unread(log, changed):
+    """The first error of a text of src/, specs/ or a changed file that antt cannot read, where there is one: that
+    such a text is false is said in other words."""
+    for error in re.finditer(r"^(?:\./)?(\S+?):\d+:\d+: error: (?:(`[^`]*`): )?(.*)$", log, re.M):
+        file, name, said = error.groups()
+        if (file in changed or file.startswith(("src/", "specs/"))) and (not name or re.search(UNREAD, re.sub(r"`[^`]*`", "", said))):
+            return error.group()
+    return None
 
 
 def stamps(folder):
@@ -45,77 +57,91 @@ def stamps(folder):
     for path in folder.rglob("*"):
         if path.is_file():
             state = path.stat()
-            files[path.relative_to(folder)] = (state.st_size, state.st_mtime_ns)
+            files[path.relative_to(folder)] = (state.st_ino if path.suffix == ".oantt" else 0, state.st_size, state.st_mtime_ns)
     return files
+
+
+def give(original, copy):
+    """Copies a file; what was proved gets a second name, since a check replaces such a file and never changes it."""
+    if str(original).endswith(".oantt"):
+        os.link(original, copy)
+    else:
+        shutil.copy2(original, copy)
 
 
 def restore(original, folder):
     """Makes a folder the original's copy again: the files that differ by size or time stamp are copied, others removed."""
     wanted, there = stamps(original), stamps(folder)
-    for file in there.keys() - wanted.keys():
+    for file in there.keys() - {file for file, stamp in wanted.items() if there.get(file) == stamp}:
         (folder / file).unlink()
     for file, stamp in wanted.items():
         if there.get(file) != stamp:
             (folder / file).parent.mkdir(parents=True, exist_ok=True)
-            shutil.copy2(original / file, folder / file)
+            give(original / file, folder / file)
 
 
 class Crate:
-    """A crate, with a copy of the repository for each check that runs at the same time."""
+    """A crate, with a copy of the repository for the control and one for each check that runs at the same time."""
 
     def __init__(self, name):
         self.name = name
-        self.work = WORK / name
-        shutil.rmtree(self.work, ignore_errors=True)
-        control = self._copy("control")
-        status, log = self._check(control)
-        if status != PROVED:
-            raise SystemExit(f"{name} as it stands is not proved over its incremental folder:\n{first_error(log)}")
-        self.folder = control / "target" / "inc" / name
-        self.free = queue.Queue()
-        for job in range(JOBS):
-            self.free.put(self._copy(str(job)))
+        self.work = pathlib.Path(tempfile.mkdtemp(prefix=f"imjarlet-{name}-"))
+        atexit.register(self.close)
+        self.control = self.work / "control"
+        for crate in (ROOT / "crates").iterdir():
+            for part in PARTS:
+                if (crate / part).is_dir():
+                    shutil.copytree(crate / part, self.control / "crates" / crate.name / part)
+        shutil.copy(ROOT / "crates.txt", self.control)
+        verdict, log = self._check(self.control)
+        if verdict != PROVED:
+            raise SystemExit(f"{name} as it stands is not proved over what its check keeps:\n{first_error(log)}")
+        self.kept = self.control / "crates" / name / "out" / "incremental"
+        self.stamps = stamps(self.kept)
+        self.free = None
 
-    def _copy(self, label):
-        copy = self.work / label
-        copy.mkdir(parents=True)
-        shutil.copy(ROOT / "crates.txt", copy)
-        shutil.copytree(ROOT / "crates", copy / "crates", ignore=not_proved)
-        for part in ("rlib", "stamp"):
-            shutil.copytree(ROOT / "target" / part, copy / "target" / part)
-        return copy
-
-    def _check(self, copy):
-        run = subprocess.run(["rt", "dev", self.name], cwd=copy, capture_output=True, text=True)
+    def _check(self, copy, *flags, changed=()):
+        run = subprocess.run(["rt", "check", *flags], cwd=copy / "crates" / self.name, capture_output=True, text=True)
         log = run.stdout + run.stderr
         if run.returncode == 0 and re.search(r"^logic=proved", log, re.M):
             return PROVED, log
-        return (REFUSED if re.search(r"^logic=not-proved", log, re.M) else UNFIT), log
+        reached = run.returncode == 1 and re.search(r"^logic=not-proved", log, re.M) and not unread(log, changed)
+        return (REFUSED if reached else UNFIT), log
+
+    def _copies(self):
+        self.free = queue.Queue()
+        for job in range(JOBS):
+            copy = self.work / str(job)
+            shutil.copytree(self.control, copy, copy_function=give)
+            self.free.put(copy)
 
     def check(self, texts):
         """The check of the crate with other texts in some of its files, and its log."""
         copy = self.free.get()
         try:
-            folder = copy / "target" / "inc" / self.name
-            restore(self.folder, folder)
+            folder = copy / "crates" / self.name
+            restore(self.kept, folder / "out" / "incremental")
             before = {}
             for path, text in texts.items():
-                file = copy / "crates" / self.name / path
+                file = folder / path
                 before[file] = file.read_text()
                 file.write_text(text)
             try:
-                return self._check(copy)
+                return self._check(copy, "--jobs", "1", changed=texts)
             finally:
                 for file, text in before.items():
                     file.write_text(text)
         finally:
             self.free.put(copy)
 
+    def each(self, work, items):
+        """The work on each item, some at a time, its results in order."""
+        if self.free is None:
+            self._copies()
+        with concurrent.futures.ThreadPoolExecutor(JOBS) as pool:
+            yield from pool.map(work, items)
+        if stamps(self.kept) != self.stamps:
+            raise SystemExit(f"{self.name}: a check changed the work that the control kept, so what was said over it shows nothing")
+
     def close(self):
         shutil.rmtree(self.work, ignore_errors=True)
-
-
-def each(work, items):
-    """The work on each item, some at a time, its results in order."""
-    with concurrent.futures.ThreadPoolExecutor(JOBS) as pool:
-        yield from pool.map(work, items)
