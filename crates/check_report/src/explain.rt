@@ -4,7 +4,6 @@
 ghost use Rattle.std.specs.Prelude.{◌≤◌, length};
 
 use command::{Controller, OUTPUT, WrongByte};
-use libc::STDERR_FILENO;
 use packet::Answer;
 use report::{HEADER, SHIPPING};
 
@@ -37,13 +36,13 @@ enum Drawn {
     Other,
 }
 
-fn text(words: &[u8]) {
-    io::write_all(STDERR_FILENO, words);
+// That it cannot be written is no reason to stop.
+fn text(rt: &impl Eprint, words: &str) {
+    let _ = rt.eprint(words);
 }
 
-fn number(words: &[u8], n: usize) {
-    text(words);
-    io::print_decimal(STDERR_FILENO, n as u64);
+fn number(rt: &impl Eprint, words: &str, n: usize) {
+    let _ = eprint!(rt; "{words}{n}");
 }
 
 // The place that is so many bytes further on, or the end.
@@ -144,89 +143,97 @@ fn send(head: Controller, bytes: &[u8], response: &mut [u8; OUTPUT]) -> Drawn {
 }
 
 // An error code, in hex and in words.
-fn tell_code(code: u8) {
+fn tell_code(rt: &impl Eprint, code: u8) {
     match code {
         0x02 => text(
-            b"code 02 (its type is neither 02 nor 04, its command is not in the table, or it reads 01 06)",
+            rt,
+            "code 02 (its type is neither 02 nor 04, its command is not in the table, or it reads 01 06)",
         ),
-        0x03 => text(b"code 03 (a value is not allowed)"),
+        0x03 => text(rt, "code 03 (a value is not allowed)"),
         0x04 => text(
-            b"code 04 (its payload is over 1,024 bytes, or the open transfer would hold more than that)",
+            rt,
+            "code 04 (its payload is over 1,024 bytes, or the open transfer would hold more than that)",
         ),
-        0x07 => text(b"code 07 (it would run a sequence outside display mode 4)"),
-        0x09 => text(b"code 09 (its checksum is wrong)"),
-        0x0A => text(b"code 0A (its data have not the command's size)"),
-        0x0B => text(b"code 0B (its flags are out of order)"),
-        _ => text(b"a code that no packet draws"),
+        0x07 => text(
+            rt,
+            "code 07 (it would run a sequence outside display mode 4)",
+        ),
+        0x09 => text(rt, "code 09 (its checksum is wrong)"),
+        0x0A => text(rt, "code 0A (its data have not the command's size)"),
+        0x0B => text(rt, "code 0B (its flags are out of order)"),
+        _ => text(rt, "a code that no packet draws"),
     }
 }
 
 // The codes of an error packet: its payload has a byte for each.
-fn tell_codes(response: &[u8; OUTPUT]) {
+fn tell_codes(rt: &impl Eprint, response: &[u8; OUTPUT]) {
     let count = packet::word(response[4], response[5]);
     let end = further(packet::HEADER, count, OUTPUT);
     for at in packet::HEADER..end {
         if packet::HEADER < at {
-            text(b", ");
+            text(rt, ", ");
         }
-        tell_code(response[at]);
+        tell_code(rt, response[at]);
     }
 }
 
 // The field that code 03 is about, by its first byte in the data; in a transfer, in the joined data.
-fn tell_wrong(wrong: WrongByte) {
+fn tell_wrong(rt: &impl Eprint, wrong: WrongByte) {
     if let WrongByte::At(byte) = wrong {
-        number(b": the field at byte ", byte as usize);
-        text(b" of the command's data, counted from 0");
+        number(rt, ": the field at byte ", byte as usize);
+        text(rt, " of the command's data, counted from 0");
     }
 }
 
 // How much there is of the unfinished packet that is these bytes.
-fn tell_unfinished(bytes: &[u8]) {
-    number(b"is unfinished: the report has ", bytes.len());
+fn tell_unfinished(rt: &impl Eprint, bytes: &[u8]) {
+    number(rt, "is unfinished: the report has ", bytes.len());
     if bytes.len() < packet::HEADER {
-        number(b" of the ", packet::HEADER);
-        text(b" bytes of its header");
+        number(rt, " of the ", packet::HEADER);
+        text(rt, " bytes of its header");
         return;
     }
     let size = packet::FRAME + packet::word(bytes[4], bytes[5]);
-    number(b" of its ", size);
-    text(b" bytes");
+    number(rt, " of its ", size);
+    text(rt, " bytes");
     // always so of an unfinished packet; the subtraction below needs the test
     if bytes.len() < size {
-        number(b" and lacks ", size - bytes.len());
+        number(rt, " and lacks ", size - bytes.len());
     }
 }
 
 // What the packet draws that the bytes begin with. It has this number and this place.
-fn tell_packet(head: Controller, bytes: &[u8], count: usize, place: usize) {
+fn tell_packet(rt: &impl Eprint, head: Controller, bytes: &[u8], count: usize, place: usize) {
     let mut response = [0u8; OUTPUT];
     let drawn = send(head, bytes, &mut response);
     // no packet at the place of a refusal 18 draws this
     if let Drawn::Other = drawn {
         return;
     }
-    number(b"check-report: packet ", count);
-    text(b" of the shipping record (counted from 1) ");
+    number(rt, "check-report: packet ", count);
+    text(rt, " of the shipping record (counted from 1) ");
     match drawn {
         Drawn::Error(wrong) => {
-            text(b"draws an error packet: ");
-            tell_codes(&response);
-            tell_wrong(wrong);
+            text(rt, "draws an error packet: ");
+            tell_codes(rt, &response);
+            tell_wrong(rt, wrong);
         }
-        Drawn::Read => text(b"draws a read response: it is a read and not a write"),
-        Drawn::Opened => text(b"is acknowledged, but the transfer that it opens is left open"),
-        Drawn::Unfinished => tell_unfinished(bytes),
+        Drawn::Read => text(rt, "draws a read response: it is a read and not a write"),
+        Drawn::Opened => text(
+            rt,
+            "is acknowledged, but the transfer that it opens is left open",
+        ),
+        Drawn::Unfinished => tell_unfinished(rt, bytes),
         // left above
         Drawn::Other => {}
     }
-    number(b"; the place is byte ", place);
-    text(b", counted from 0\n");
+    number(rt, "; the place is byte ", place);
+    text(rt, ", counted from 0\n");
 }
 
 // Says which packet of a report is refused with 18 at this place, and why. A packet of the shipping
 // record starts at the place that `check` gives; at any other place nothing is said.
-pub fn tell(r: &[u8], place: usize) {
+pub fn tell(rt: &impl Eprint, r: &[u8], place: usize) {
     let shipping = shipping_of(r);
     let from = shipping.from;
     let end = shipping.end;
@@ -242,5 +249,5 @@ pub fn tell(r: &[u8], place: usize) {
         return;
     }
     let head = reached.head;
-    tell_packet(head, &r[place..end], count, place);
+    tell_packet(rt, head, &r[place..end], count, place);
 }

@@ -4,13 +4,14 @@
 
 mod explain;
 
-ghost use Rattle.std.specs.Prelude.{◌≡◌, length};
+ghost use Rattle.std.specs.Prelude.{◌≡◌, ◌≤◌, length};
 ghost use Rattle.packet.specs.Writer.{written};
 ghost use Rattle.report.specs.Report.{verdict};
 ghost use Rattle.report.specs.Line.{line_of};
 
-use libc::{STDIN_FILENO, STDOUT_FILENO};
 use report::{LINE, LONGEST, Outcome, check, write_line};
+use std::env::Env;
+use std::io::Read;
 
 // One byte more than a report may have: a longer input is refused for its length, and the rest of
 // it is not read.
@@ -49,29 +50,45 @@ fn same(given: &[u8], name: &[u8]) -> bool {
 }
 
 // Whether the first argument asks for words. A longer one than these 9 bytes does not fit, and is another.
-fn explain_asked() -> bool {
+fn explain_asked(rt: &impl Env) -> bool {
     let mut given = [0u8; 9];
-    let n = os::arg(1, &mut given);
+    let n = rt.arg(1, &mut given).unwrap_or(0);
     same(&given[..n], b"--explain")
 }
 
-fn explain_refusal(r: &[u8], trial: Outcome) {
+fn explain_refusal(rt: &impl Eprint, r: &[u8], trial: Outcome) {
     if let Outcome::Refused { number, place } = trial {
         if number == EXPLAINED {
-            explain::tell(r, place);
+            explain::tell(rt, r, place);
         }
     }
 }
 
-fn main() {
+// Reads until the buffer is full, the input ends or a read fails: how many bytes it put at the start of
+// the buffer.
+fn read_full(input: &mut impl Read, buf: &mut [u8]) -> usize
+    ensures { result ≤ length buf.new }
+{
+    let mut done = 0;
+    while done < buf.len() {
+        let n = input.read(&mut buf[done..]).unwrap_or(0);
+        if n == 0 {
+            break;
+        }
+        done += n;
+    }
+    done
+}
+
+fn main(rt: HostRuntime) {
     let mut input = [0u8; ROOM];
-    let given = io::read_full(STDIN_FILENO, &mut input);
+    let given = read_full(&mut rt.stdin(), &mut input);
     let mut line = [0u8; LINE];
     let judged = judge(&mut line, &input[..given]);
     let n = judged.length;
-    io::write_all(STDOUT_FILENO, &line[..n]);
-    if explain_asked() {
+    let _ = rt.write_all(&line[..n]);
+    if explain_asked(&rt) {
         let trial = judged.trial;
-        explain_refusal(&input[..given], trial);
+        explain_refusal(&rt, &input[..given], trial);
     }
 }

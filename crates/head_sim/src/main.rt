@@ -7,8 +7,8 @@
 ghost use Rattle.std.specs.Prelude.{◌≤◌, length};
 
 use command::{Controller, WrongByte};
-use libc::{STDERR_FILENO, STDIN_FILENO, STDOUT_FILENO};
 use packet::Answer;
+use std::io::Read;
 
 // How many bytes a read may bring. It brings what is there and does not wait for more.
 const ROOM: usize = 4096;
@@ -32,7 +32,7 @@ struct Served {
 }
 
 // Writes the response of an answer, and tells what was taken of `left` bytes.
-fn send(a: Answer, out: &[u8], left: usize) -> Sent
+fn send(rt: &impl Print, a: Answer, out: &[u8], left: usize) -> Sent
     ensures { result.taken ≤ left }
 {
     match a {
@@ -49,7 +49,7 @@ fn send(a: Answer, out: &[u8], left: usize) -> Sent
                     going: false,
                 };
             }
-            let going = io::write_all(STDOUT_FILENO, &out[..length]);
+            let going = rt.write_all(&out[..length]).is_ok();
             Sent { taken, going }
         }
         // The call waits for more and has taken all.
@@ -65,21 +65,17 @@ fn send(a: Answer, out: &[u8], left: usize) -> Sent
 }
 
 // Says which byte is wrong in a write of this command. That it cannot be written is no reason to stop.
-fn tell(cmd1: u8, cmd2: u8, wrong: WrongByte) {
+fn tell(rt: &impl Eprint, cmd1: u8, cmd2: u8, wrong: WrongByte) {
     let WrongByte::At(byte) = wrong else {
         return;
     };
-    io::write_all(STDERR_FILENO, b"head_sim: ");
-    io::print_hex(STDERR_FILENO, cmd1 as u64, 2);
-    io::write_all(STDERR_FILENO, b" ");
-    io::print_hex(STDERR_FILENO, cmd2 as u64, 2);
-    io::write_all(STDERR_FILENO, b" draws code 03: wrong from data byte ");
-    io::print_decimal(STDERR_FILENO, byte as u64);
-    io::write_all(STDERR_FILENO, b" on\n");
+    let _ = eprintln!(rt;
+        "head_sim: {cmd1:02x} {cmd2:02x} draws code 03: wrong from data byte {byte} on"
+    );
 }
 
 // One call: takes bytes until they end or one packet is complete, and answers it.
-fn serve(c: Controller, input: &[u8]) -> Served
+fn serve(rt: &(impl Print + Eprint), c: Controller, input: &[u8]) -> Served
     ensures { result.taken ≤ length input.now }
 {
     let mut out = [0u8; command::OUTPUT];
@@ -87,9 +83,9 @@ fn serve(c: Controller, input: &[u8]) -> Served
     let next = s.controller;
     let answer = s.answer;
     let wrong = s.wrong;
-    let t = send(answer, &out, input.len());
+    let t = send(rt, answer, &out, input.len());
     // The response repeats the packet's CMD1 and CMD2.
-    tell(out[1], out[2], wrong);
+    tell(rt, out[1], out[2], wrong);
     Served {
         controller: next,
         taken: t.taken,
@@ -98,30 +94,28 @@ fn serve(c: Controller, input: &[u8]) -> Served
 }
 
 // Reads what is there: how many bytes, 0 at the end of the input or where the read fails.
-fn read(buf: &mut [u8]) -> usize
+fn read(input: &mut impl Read, buf: &mut [u8]) -> usize
     ensures { result ≤ length buf.new }
 {
-    let got = libc::read(STDIN_FILENO, buf);
-    io::count(got, buf)
+    input.read(buf).unwrap_or(0)
 }
 
-fn main() {
+fn main(rt: HostRuntime) {
+    let mut input = rt.stdin();
     let mut buf = [0u8; ROOM];
     let mut c = Controller::fresh();
-    let mut calls: usize = 0;
     let mut at: usize = 0;
     let mut end: usize = 0;
-    while calls < CALLS {
-        calls += 1;
+    for _ in 0..CALLS {
         if at == end {
-            end = read(&mut buf);
+            end = read(&mut input, &mut buf);
             at = 0;
             if end == 0 {
                 return;
             }
             continue;
         }
-        let s = serve(c, &buf[at..end]);
+        let s = serve(&rt, c, &buf[at..end]);
         if !s.going {
             return;
         }

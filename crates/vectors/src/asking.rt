@@ -117,109 +117,109 @@ fn judgement_end(b: &[u8]) -> usize
 }
 
 // The first n bytes of b.
-fn hex(b: &[u8], n: usize) {
+fn hex(rt: &impl Print, b: &[u8], n: usize) {
     if n == 0 {
-        text(b" -");
+        text(rt, b" -");
         return;
     }
-    Said::aloud().bytes(b" ", b, n);
+    Said::aloud().bytes(rt, b" ", b, n);
 }
 
-fn cmd(cmd1: u8, cmd2: u8) {
+fn cmd(rt: &impl Print, cmd1: u8, cmd2: u8) {
     let code = [cmd1, cmd2];
-    hex(&code, 2);
+    hex(rt, &code, 2);
 }
 
 // An open transfer: its command and the held bytes.
-fn transfer(active: u8, cmd1: u8, cmd2: u8, held: u16, buffer: &[u8]) {
-    text(b" | transfer");
+fn transfer(rt: &impl Print, active: u8, cmd1: u8, cmd2: u8, held: u16, buffer: &[u8]) {
+    text(rt, b" | transfer");
     if active == 0 {
-        text(b" -");
+        text(rt, b" -");
         return;
     }
-    cmd(cmd1, cmd2);
-    hex(buffer, held as usize);
+    cmd(rt, cmd1, cmd2);
+    hex(rt, buffer, held as usize);
 }
 
-fn accepted(accepts: u16) {
+fn accepted(rt: &impl Print, accepts: u16) {
     if accepts == 0 {
-        text(b"error");
+        text(rt, b"error");
         return;
     }
     if accepts == command::HOLDS {
-        text(b"hold");
+        text(rt, b"hold");
         return;
     }
     if accepts == command::WRITES {
-        text(b"write");
+        text(rt, b"write");
         return;
     }
     if accepts == command::READS {
-        text(b"read");
+        text(rt, b"read");
         return;
     }
-    text(b"of no known kind");
+    text(rt, b"of no known kind");
 }
 
 // The codes of which the bits are set.
-fn codes(mut bits: u16) {
+fn codes(rt: &impl Print, mut bits: u16) {
     let said = Said::aloud();
     for n in 0..BITS {
         if bits % 2 == 1 {
-            text(b" ");
-            said.hex(n);
+            text(rt, b" ");
+            said.hex(rt, n);
         }
         bits = bits / 2;
     }
 }
 
-fn wrong(w: u16) {
+fn wrong(rt: &impl Print, w: u16) {
     if w == command::NO_WRONG_BYTE {
-        text(b" | wrong -");
+        text(rt, b" | wrong -");
         return;
     }
-    number(b" | wrong ", w as usize);
+    number(rt, b" | wrong ", w as usize);
 }
 
 // What the packet draws, what was judged under, and the joined data.
-fn judged(j: JudgementRecord) {
+fn judged(rt: &impl Print, j: JudgementRecord) {
     let n = j.ruling;
     let kept = n.kept;
     let joined = j.joined;
-    accepted(n.accepts);
-    codes(n.codes);
-    text(b" | cmd");
-    cmd(n.cmd1, n.cmd2);
-    wrong(n.wrong);
-    number(b" | mode ", kept.mode as usize);
-    transfer(kept.active, kept.cmd1, kept.cmd2, kept.held, &joined);
-    text(b" | joined");
-    hex(&joined, n.count as usize);
+    accepted(rt, n.accepts);
+    codes(rt, n.codes);
+    text(rt, b" | cmd");
+    cmd(rt, n.cmd1, n.cmd2);
+    wrong(rt, n.wrong);
+    number(rt, b" | mode ", kept.mode as usize);
+    transfer(rt, kept.active, kept.cmd1, kept.cmd2, kept.held, &joined);
+    text(rt, b" | joined");
+    hex(rt, &joined, n.count as usize);
 }
 
 // What a controller makes of a packet.
-fn asked(c: Controller, sent: &[u8]) {
+fn asked(rt: &impl Print, c: Controller, sent: &[u8]) {
     let j = command::judge_packet(c, sent);
     let answer = j.answer;
     let judgement = j.judgement;
     match answer {
-        Asked::Judged => judged(judgement),
-        Asked::OutOfRule => text(b"refused 3"),
-        Asked::NotOnePacket => text(b"refused 5"),
+        Asked::Judged => judged(rt, judgement),
+        Asked::OutOfRule => text(rt, b"refused 3"),
+        Asked::NotOnePacket => text(rt, b"refused 5"),
     }
 }
 
 // The controller, the packet's length in four bytes, and the packet.
-pub fn judge(b: &[u8]) {
-    text(b": ");
+pub fn judge(rt: &impl Print, b: &[u8]) {
+    text(rt, b": ");
     let start = controller_end(b);
     let rest = &b[start..];
     let length = packet::word(byte(rest, 0), byte(rest, 1))
         + 65536 * packet::word(byte(rest, 2), byte(rest, 3));
     let from = further(0, 4, rest.len());
     let end = further(from, length, rest.len());
-    asked(controller(b), &rest[from..end]);
-    text(b"\n");
+    asked(rt, controller(b), &rest[from..end]);
+    text(rt, b"\n");
 }
 
 // The number of a refusal; 0 is none.
@@ -241,53 +241,59 @@ fn blank(out: &[u8], from: usize) -> bool {
 }
 
 // The response or the refusal; whether all else is as it was.
-fn told(c: Controller, after: Controller, a: CarriedOut, out: &[u8; ROOM]) -> bool {
+fn told(
+    rt: &impl Print,
+    c: Controller,
+    after: Controller,
+    a: CarriedOut,
+    out: &[u8; ROOM],
+) -> bool {
     match a {
         CarriedOut::Length(length) => {
-            text(b"written");
-            hex(out, length);
+            text(rt, b"written");
+            hex(rt, out, length);
             same_packet(c, after) & blank(out, length)
         }
         _ => {
-            number(b"refused ", refusal(a));
+            number(rt, b"refused ", refusal(a));
             same_controller(c, after) & blank(out, 0)
         }
     }
 }
 
 // The settings, by their standard list, and the open transfer.
-fn ended(c: Controller) {
+fn ended(rt: &impl Print, c: Controller) {
     let mut list = [0u8; command::LIST_OUTPUT];
-    text(b" | list");
+    text(rt, b" | list");
     match command::standard_list(c.settings, &mut list) {
-        Encoded::Length(length) => hex(&list, length),
-        _ => text(b" refused"),
+        Encoded::Length(length) => hex(rt, &list, length),
+        _ => text(rt, b" refused"),
     }
     let r = c.registers;
     let buffer = c.buffer;
-    transfer(r.active, r.cmd1, r.cmd2, r.held, &buffer);
+    transfer(rt, r.active, r.cmd1, r.cmd2, r.held, &buffer);
 }
 
 // What carrying out does to an output of n bytes.
-fn carried(c: Controller, j: JudgementRecord, n: usize) {
+fn carried(rt: &impl Print, c: Controller, j: JudgementRecord, n: usize) {
     let mut out = [BLANK; ROOM];
     let end = further(0, n, ROOM);
     let s = command::carry_out(c, j, &mut out[0..end]);
     let answer = s.answer;
     let after = s.controller;
-    let kept = told(c, after, answer, &out);
-    ended(after);
+    let kept = told(rt, c, after, answer, &out);
+    ended(rt, after);
     if !kept {
-        text(b" | touched");
+        text(rt, b" | touched");
     }
 }
 
 // The controller, the judgement, and the output's length in two bytes.
-pub fn carry(b: &[u8]) {
-    text(b": ");
+pub fn carry(rt: &impl Print, b: &[u8]) {
+    text(rt, b": ");
     let from = controller_end(b);
     let j = &b[from..];
     let end = judgement_end(j);
-    carried(controller(b), judgement(j), word(&j[end..], 0) as usize);
-    text(b"\n");
+    carried(rt, controller(b), judgement(j), word(&j[end..], 0) as usize);
+    text(rt, b"\n");
 }

@@ -6,8 +6,8 @@ use command::{Command, Encoded, Found, Settings};
 // Room for the longest output.
 const ROOM: usize = 2000;
 
-fn written(name: &[u8], out: &[u8], length: usize) {
-    Said::aloud().bytes(name, out, length);
+fn written(rt: &impl Print, name: &[u8], out: &[u8], length: usize) {
+    Said::aloud().bytes(rt, name, out, length);
 }
 
 // The number of a refusal; 0 is none.
@@ -21,79 +21,79 @@ fn refusal(e: Encoded) -> usize {
 }
 
 // What is written, or the refusal.
-fn told(e: Encoded, out: &[u8]) {
+fn told(rt: &impl Print, e: Encoded, out: &[u8]) {
     match e {
-        Encoded::Length(length) => written(b"written ", out, length),
-        _ => number(b"refused ", refusal(e)),
+        Encoded::Length(length) => written(rt, b"written ", out, length),
+        _ => number(rt, b"refused ", refusal(e)),
     }
 }
 
 // How much is written, or the refusal.
-fn counted(e: Encoded) {
+fn counted(rt: &impl Print, e: Encoded) {
     match e {
-        Encoded::Length(length) => number(b"written ", length),
-        _ => number(b"refused ", refusal(e)),
+        Encoded::Length(length) => number(rt, b"written ", length),
+        _ => number(rt, b"refused ", refusal(e)),
     }
 }
 
 // The end settings of a report, by their standard list.
-pub fn ended(s: Settings) {
+pub fn ended(rt: &impl Print, s: Settings) {
     let mut out = [0u8; command::LIST_OUTPUT];
     if let Encoded::Length(length) = command::standard_list(s, &mut out) {
-        written(b"list ", &out, length);
-        text(b"\n");
+        written(rt, b"list ", &out, length);
+        text(rt, b"\n");
     }
 }
 
-fn list_to(s: Settings, out: &mut [u8]) {
+fn list_to(rt: &impl Print, s: Settings, out: &mut [u8]) {
     let e = command::standard_list(s, out);
-    told(e, out);
+    told(rt, e, out);
 }
 
 // How long the standard list is.
-pub fn list_length(s: Settings) {
+pub fn list_length(rt: &impl Print, s: Settings) {
     let mut out = [0u8; command::LIST_OUTPUT];
-    counted(command::standard_list(s, &mut out));
+    counted(rt, command::standard_list(s, &mut out));
 }
 
 // The packet of the command that b begins with.
-fn packet_to(b: &[u8], s: Settings, out: &mut [u8]) {
+fn packet_to(rt: &impl Print, b: &[u8], s: Settings, out: &mut [u8]) {
     let Found::Known(c) = Command::find(byte(b, 0), byte(b, 1)) else {
-        text(b"no command");
+        text(rt, b"no command");
         return;
     };
     let e = command::encode(command::value_of(s, c), out);
-    told(e, out);
+    told(rt, e, out);
 }
 
 // The same to an output that is just long enough.
-pub fn packet_of(b: &[u8], s: Settings) {
+pub fn packet_of(rt: &impl Print, b: &[u8], s: Settings) {
     let mut out = [0u8; command::OUTPUT];
-    packet_to(b, s, &mut out);
+    packet_to(rt, b, s, &mut out);
 }
 
 // The output's length in two bytes, and the settings.
-pub fn list(b: &[u8]) {
-    text(b": ");
+pub fn list(rt: &impl Print, b: &[u8]) {
+    text(rt, b": ");
     if b.len() != 2 + SETTINGS {
-        text(b"of another length\n");
+        text(rt, b"of another length\n");
         return;
     }
     let mut out = [0u8; ROOM];
     let n = further(0, word(b, 0) as usize, ROOM);
-    list_to(settings_from(b, 2), &mut out[0..n]);
-    text(b"\n");
+    list_to(rt, settings_from(b, 2), &mut out[0..n]);
+    text(rt, b"\n");
 }
 
 // The command in two bytes, the output's length in two, and the settings.
-pub fn packet(b: &[u8]) {
-    text(b": ");
+pub fn packet(rt: &impl Print, b: &[u8]) {
+    text(rt, b": ");
     if b.len() != 4 + SETTINGS {
-        text(b"of another length\n");
+        text(rt, b"of another length\n");
         return;
     }
     let mut out = [0u8; ROOM];
     let n = further(0, word(b, 2) as usize, ROOM);
-    packet_to(b, settings_from(b, 4), &mut out[0..n]);
-    text(b"\n");
+    packet_to(rt, b, settings_from(b, 4), &mut out[0..n]);
+    text(rt, b"\n");
 }

@@ -20,8 +20,13 @@ mod said;
 mod same;
 mod stream;
 
+ghost use Rattle.std.specs.Prelude.{◌≤◌, length};
+
 use report::{Checked, LINE, Outcome};
 use said::{further, number, text};
+use std::fs;
+use std::io::Read;
+use std::rt::Files;
 
 // Room for the longest case, and more rows than the file has: nothing says that a file ends.
 const ROOM: usize = 70000;
@@ -29,75 +34,92 @@ const ROOM: usize = 70000;
 const ROWS: usize = 65536;
 
 // The line of the checking program.
-fn line(c: Checked) {
+fn line(rt: &impl Print, c: Checked) {
     let mut bytes = [0u8; LINE];
     let n = report::write_line(&mut bytes, c);
-    text(&bytes[..n]);
+    text(rt, &bytes[..n]);
 }
 
 // And for a yes the end settings.
-fn report(b: &[u8]) {
-    text(b": ");
+fn report(rt: &impl Print, b: &[u8]) {
+    text(rt, b": ");
     let c = report::check(b);
     let trial = c.trial;
     let settings = c.settings;
-    line(c);
+    line(rt, c);
     if let Outcome::Value(_) = trial {
-        emit::ended(settings);
+        emit::ended(rt, settings);
     }
 }
 
-fn case(kind: u8, b: &[u8]) {
+fn case(rt: &impl Print, kind: u8, b: &[u8]) {
     match kind {
-        b's' => stream::tell(b),
-        b'r' => report(b),
-        b'l' => emit::list(b),
-        b'e' => emit::packet(b),
-        b'g' => guide::tell(b),
-        b'j' => asking::judge(b),
-        b'c' => asking::carry(b),
-        _ => text(b" of no known kind\n"),
+        b's' => stream::tell(rt, b),
+        b'r' => report(rt, b),
+        b'l' => emit::list(rt, b),
+        b'e' => emit::packet(rt, b),
+        b'g' => guide::tell(rt, b),
+        b'j' => asking::judge(rt, b),
+        b'c' => asking::carry(rt, b),
+        _ => text(rt, b" of no known kind\n"),
     }
+}
+
+// Reads until the buffer is full, the file ends or a read fails: how many bytes it put at the start of the
+// buffer.
+fn read_full(file: &mut impl Read, b: &mut [u8]) -> usize
+    ensures { result ≤ length b.new }
+{
+    let mut done = 0;
+    while done < b.len() {
+        let n = file.read(&mut b[done..]).unwrap_or(0);
+        if n == 0 {
+            break;
+        }
+        done += n;
+    }
+    done
 }
 
 // Reads and runs a row; false where there is no whole one.
-fn next(fd: i32, row: usize, b: &mut [u8]) -> bool {
+fn next(rt: &impl Print, file: &mut impl Read, row: usize, b: &mut [u8]) -> bool {
     let mut head = [0u8; 5];
-    if io::read_full(fd, &mut head) < 5 {
+    if read_full(file, &mut head) < 5 {
         return false;
     }
     let length = packet::word(head[1], head[2]) + 65536 * packet::word(head[3], head[4]);
     let n = further(0, length, b.len());
-    if io::read_full(fd, &mut b[0..n]) < n {
+    if read_full(file, &mut b[0..n]) < n {
         return false;
     }
-    number(b"case ", row);
-    case(head[0], &b[0..n]);
+    number(rt, b"case ", row);
+    case(rt, head[0], &b[0..n]);
     true
 }
 
-fn rows(fd: i32) {
+fn rows(rt: &impl Print, file: &mut impl Read) {
     let mut b = [0u8; ROOM];
     for row in 1..ROWS {
-        if !next(fd, row, &mut b) {
+        if !next(rt, file, row, &mut b) {
             break;
         }
     }
 }
 
-fn file(name: &[u8]) {
-    text(b"file ");
-    text(name);
-    text(b"\n");
-    let fd = os::open_read(name);
-    rows(fd);
-    libc::close(fd);
+// A file that cannot be opened has no rows.
+fn file(rt: &(impl Files + Print), name: &str) {
+    text(rt, b"file ");
+    text(rt, name.as_bytes());
+    text(rt, b"\n");
+    if let Ok(mut opened) = fs::open(rt, name) {
+        rows(rt, &mut opened);
+    }
 }
 
-fn main() {
-    file(b"01");
-    file(b"02");
-    file(b"03");
-    file(b"04");
-    file(b"05");
+fn main(rt: HostRuntime) {
+    file(&rt, "01");
+    file(&rt, "02");
+    file(&rt, "03");
+    file(&rt, "04");
+    file(&rt, "05");
 }

@@ -2,15 +2,15 @@
 ghost use Rattle.std.specs.Prelude.{◌+◌, ◌≤◌};
 
 use command::WrongByte;
-use libc::STDOUT_FILENO;
 
-pub fn text(t: &[u8]) {
-    io::write_all(STDOUT_FILENO, t);
+// That it cannot be written is no reason to stop.
+pub fn text(rt: &impl Print, t: &[u8]) {
+    let _ = rt.write_all(t);
 }
 
-pub fn number(name: &[u8], n: usize) {
-    text(name);
-    io::print_decimal(STDOUT_FILENO, n as u64);
+pub fn number(rt: &impl Print, name: &[u8], n: usize) {
+    text(rt, name);
+    let _ = rt.print(n);
 }
 
 // The place that is so many bytes further on, or the end.
@@ -26,7 +26,7 @@ const PRIME: u64 = 4294967291;
 // What runs say is digits of one number to the base 256. The digest is its remainder by the largest
 // prime below 2^32: where one byte differs, so does the digest. What is said aloud is printed too; the
 // wrong bytes stand in a line of their own, and are printed without the rest.
-#[derive(Drop)]
+#[derive(Clone, Copy)]
 pub struct Said {
     pub aloud: bool,
     pub wrong_aloud: bool,
@@ -57,25 +57,25 @@ impl Said {
         self
     }
 
-    pub fn hex(self, n: u64) -> Said {
+    pub fn hex(self, rt: &impl Print, n: u64) -> Said {
         if self.aloud {
-            io::print_hex(STDOUT_FILENO, n, 2);
+            let _ = print!(rt; "{n:02x}");
         }
         self.digit(n)
     }
 
     // The wrong byte of a packet. The digit is one more, and 0 where there is none.
-    pub fn wrong(self, w: WrongByte) -> Said {
+    pub fn wrong(self, rt: &impl Print, w: WrongByte) -> Said {
         match w {
             WrongByte::At(n) => {
                 if self.wrong_aloud {
-                    number(b" ", n as usize);
+                    number(rt, b" ", n as usize);
                 }
                 self.digit(n as u64 + 1)
             }
             WrongByte::Nothing => {
                 if self.wrong_aloud {
-                    text(b" -");
+                    text(rt, b" -");
                 }
                 self.digit(0)
             }
@@ -83,13 +83,13 @@ impl Said {
     }
 
     // The first n bytes of b, after their name.
-    pub fn bytes(mut self, name: &[u8], b: &[u8], n: usize) -> Said {
+    pub fn bytes(mut self, rt: &impl Print, name: &[u8], b: &[u8], n: usize) -> Said {
         if self.aloud {
-            text(name);
+            text(rt, name);
         }
         let end = further(0, n, b.len());
         for i in 0..end {
-            self = self.hex(b[i] as u64);
+            self = self.hex(rt, b[i] as u64);
         }
         self
     }

@@ -11,14 +11,14 @@ use packet::{Answer, Next};
 // The last place at which a stream is cut. With all, the work would grow with its length's square.
 const PLACES: usize = 1700;
 
-fn sizes(b: &[u8]) {
+fn sizes(rt: &impl Print, b: &[u8]) {
     let mut at: usize = 0;
     for _ in 0..b.len() {
         let Next::Packet { size, right: _ } = packet::next_packet(b, at) else {
             return;
         };
-        number(b" ", size);
-        at = std::num::wrapping_add_usize(at, size);
+        number(rt, b" ", size);
+        at = at.wrapping_add(size);
     }
 }
 
@@ -32,35 +32,35 @@ fn taken_by(a: Answer) -> usize {
 
 // The response and the wrong byte beside it. A call that completes no packet has neither; a wrong byte
 // that it told all the same would be one too many.
-fn respond(said: Said, a: Answer, wrong: WrongByte, out: &[u8]) -> Said {
+fn respond(rt: &impl Print, said: Said, a: Answer, wrong: WrongByte, out: &[u8]) -> Said {
     if let Answer::Answered { taken: _, length } = a {
-        return said.bytes(b" ", out, length).wrong(wrong);
+        return said.bytes(rt, b" ", out, length).wrong(rt, wrong);
     }
     match wrong {
-        WrongByte::At(_) => said.wrong(wrong),
+        WrongByte::At(_) => said.wrong(rt, wrong),
         WrongByte::Nothing => said,
     }
 }
 
 // The data of an open transfer stands at the start of its buffer.
-fn transfer(said: Said, r: command::Registers, buffer: &[u8]) -> Said {
+fn transfer(rt: &impl Print, said: Said, r: command::Registers, buffer: &[u8]) -> Said {
     if r.active == 0 {
         return said;
     }
     let code = [r.cmd1, r.cmd2];
-    said.bytes(b"\ntransfer ", &code, 2)
-        .bytes(b" ", buffer, r.held as usize)
+    said.bytes(rt, b"\ntransfer ", &code, 2)
+        .bytes(rt, b" ", buffer, r.held as usize)
 }
 
-fn finish(said: Said, c: Controller) -> Said {
-    let unfinished = said.bytes(b"\nunfinished ", b"", 0);
+fn finish(rt: &impl Print, said: Said, c: Controller) -> Said {
+    let unfinished = said.bytes(rt, b"\nunfinished ", b"", 0);
     let registers = c.registers;
     let buffer = c.buffer;
-    let received = unfinished.hex(registers.received as u64);
-    let told = transfer(received, registers, &buffer);
+    let received = unfinished.hex(rt, registers.received as u64);
+    let told = transfer(rt, received, registers, &buffer);
     let mut list = [0u8; command::LIST_OUTPUT];
     match command::standard_list(c.settings, &mut list) {
-        command::Encoded::Length(length) => told.bytes(b"\nlist ", &list, length),
+        command::Encoded::Length(length) => told.bytes(rt, b"\nlist ", &list, length),
         _ => told,
     }
 }
@@ -81,7 +81,7 @@ struct Fed {
 }
 
 // Feeds b in such pieces. The last call takes nothing: at the end of b it is lent no bytes.
-fn feed(mut said: Said, b: &[u8], cut: usize, size: usize) -> Fed
+fn feed(rt: &impl Print, mut said: Said, b: &[u8], cut: usize, size: usize) -> Fed
     requires { cut ≤ length b.now }
 {
     let mut c = Controller::fresh();
@@ -93,7 +93,7 @@ fn feed(mut said: Said, b: &[u8], cut: usize, size: usize) -> Fed
         c = s.controller;
         let answer = s.answer;
         let wrong = s.wrong;
-        said = respond(said, answer, wrong, &out);
+        said = respond(rt, said, answer, wrong, &out);
         let next = further(at, taken_by(answer), end);
         if next == at {
             return Fed {
@@ -105,45 +105,45 @@ fn feed(mut said: Said, b: &[u8], cut: usize, size: usize) -> Fed
     }
 }
 
-fn run(said: Said, b: &[u8], cut: usize, size: usize) -> Said
+fn run(rt: &impl Print, said: Said, b: &[u8], cut: usize, size: usize) -> Said
     requires { cut ≤ length b.now }
 {
-    let fed = feed(said, b, cut, size);
+    let fed = feed(rt, said, b, cut, size);
     let c = fed.controller;
-    finish(fed.said, c)
+    finish(rt, fed.said, c)
 }
 
 // The runs: byte by byte and aloud, then cut at each place. Cut at place 0, b is whole.
-fn runs(b: &[u8]) -> u32 {
-    let mut said = run(Said::aloud(), b, 0, 1);
+fn runs(rt: &impl Print, b: &[u8]) -> u32 {
+    let mut said = run(rt, Said::aloud(), b, 0, 1);
     said.aloud = false;
     let cuts = further(0, PLACES, b.len()) + 1;
     for k in 0..cuts {
-        said = run(said, b, k, b.len());
+        said = run(rt, said, b, k, b.len());
     }
     said.digest
 }
 
 // The responses to a stream that is given whole.
-pub fn responses(b: &[u8]) {
+pub fn responses(rt: &impl Print, b: &[u8]) {
     if b.len() == 0 {
-        text(b" -");
+        text(rt, b" -");
         return;
     }
-    feed(Said::aloud(), b, 0, b.len());
+    feed(rt, Said::aloud(), b, 0, b.len());
 }
 
 // The wrong byte of each packet of such a stream.
-pub fn wrong_bytes(b: &[u8]) {
-    feed(Said::wrong_aloud(), b, 0, b.len());
+pub fn wrong_bytes(rt: &impl Print, b: &[u8]) {
+    feed(rt, Said::wrong_aloud(), b, 0, b.len());
 }
 
-pub fn tell(b: &[u8]) {
-    text(b": packets");
-    sizes(b);
-    text(b"\nwrong");
-    wrong_bytes(b);
-    text(b"\nresponses");
-    number(b"\ndigest ", runs(b) as usize);
-    text(b"\n");
+pub fn tell(rt: &impl Print, b: &[u8]) {
+    text(rt, b": packets");
+    sizes(rt, b);
+    text(rt, b"\nwrong");
+    wrong_bytes(rt, b);
+    text(rt, b"\nresponses");
+    number(rt, b"\ndigest ", runs(rt, b) as usize);
+    text(rt, b"\n");
 }
