@@ -16,5 +16,5 @@ returns c =
       c.wrong_order.ensures,
       c.held-held.ensures,
       c.open_for-ours.ensures,
-      c.word.ensures.0,
+      c.word-size.ensures.0,
     )
