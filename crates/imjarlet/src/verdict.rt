@@ -7,7 +7,7 @@ use command::Settings;
 use report::{Checked, Outcome};
 
 #[repr(C)]
-#[derive(Drop)]
+#[derive(Clone, Copy)]
 pub struct Verdict {
     // Where the refusal is; 0 with an accepted report.
     pub place: u64,

@@ -18,7 +18,7 @@ pub const SHIPPING: usize = 4;
 pub const HEADER: usize = 4;
 
 // A value that was read, or the refusal that ends the reading.
-#[derive(Drop)]
+#[derive(Clone, Copy)]
 pub enum Outcome {
     Value(usize),
     // Document 01's number of the refusal, and its place.

@@ -1,9 +1,0 @@
--- `same_colour` meets its contract.
-use mathlib.Core.Bool.{and_assoc, and-true}
-use Rattle.command.specs.Data.{same_list}
-use Rattle.report.proofs.same.same_colour.Statement.{statement}
-use Rattle.report.proofs.same.same_colour.Tie as tie
-
-pub same_colour_spec : {M : Type 1} → statement M
-unfolding same_list
-same_colour_spec = tie.close (tie.spec (λ c. simp (and_assoc, and-true)))

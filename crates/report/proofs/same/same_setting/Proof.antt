@@ -1,9 +1,0 @@
--- `same_setting` meets its contract.
-use mathlib.Core.Bool.{and_assoc, and-true}
-use Rattle.command.specs.Data.{same_list}
-use Rattle.report.proofs.same.same_setting.Statement.{statement}
-use Rattle.report.proofs.same.same_setting.Tie as tie
-
-pub same_setting_spec : {M : Type 1} → statement M
-unfolding same_list
-same_setting_spec = tie.close (tie.spec (λ c. simp (and_assoc, and-true)))

@@ -1,9 +1,0 @@
--- `same_video` meets its contract.
-use mathlib.Core.Bool.{and_assoc, and-true}
-use Rattle.command.specs.Data.{same_list}
-use Rattle.report.proofs.same.same_video.Statement.{statement}
-use Rattle.report.proofs.same.same_video.Tie as tie
-
-pub same_video_spec : {M : Type 1} → statement M
-unfolding same_list
-same_video_spec = tie.close (tie.spec (λ c. simp (and_assoc, and-true)))
