@@ -7,7 +7,6 @@ use native.Mathlib.Omega.{arith}
 use lib.ListN.{length, take, drop, length-append}
 use lib.Seq.{sets, sets-eq, length-sets, take_at, length-take-le}
 use borrow.Author.Tests.{le-leb}
-use Rattle.command.specs.Table.{command_of}
 use Rattle.command.specs.Transfer.{Transfer, Opened, held}
 use Rattle.command.specs.Faults.{Arrived}
 use Rattle.command.specs.Judgement.{judge}

@@ -12,7 +12,7 @@ use Rattle.packet.specs.Answer.{Answers}
 use Rattle.packet.specs.Calls.{Call, Served, and_then, calls_on, served_one}
 use Rattle.packet.specs.Packet.{payload_length, payload, right_sum}
 use Rattle.packet.specs.Receiver.{Receiver, Received, with, waiting as receiver_waiting}
-use Rattle.packet.specs.Stream.{size, has_packet, packets, rest}
+use Rattle.packet.specs.Stream.{has_packet, packets, rest}
 use Rattle.packet.specs.Writer.{written}
 use Rattle.packet.proofs.Cases.{bool_cases}
 use Rattle.packet.proofs.Calls.{same_calls}

@@ -1,5 +1,5 @@
 -- `carry_record` meets its contract: `carry` is called with what the packet brought.
-use Rattle.std.proofs.Common.{◌≡◌, refl, ap, ◌∙◌, arith}
+use Rattle.std.proofs.Common.{refl, ap, ◌∙◌, arith}
 use Rattle.command.specs.Controller.{transfer_of, held_in}
 use Rattle.command.specs.Encoder.{Writes}
 use Rattle.command.proofs.transfer.Laws.{held_most}

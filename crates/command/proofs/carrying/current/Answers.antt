@@ -3,8 +3,7 @@ use Rattle.std.proofs.Common.{◌≡◌, ℕ, true, false, List, length, take, s
 use Rattle.std.proofs.lemmas.Bool.{eq-eqb, ne_eqb}
 use Rattle.std.proofs.lemmas.List.{length-take-le}
 use Rattle.command.specs.Controller.{held_in, transfer_in_rule}
-use Rattle.command.specs.Data.{same_list}
-use Rattle.command.specs.Ruling.{items_in, same_items, transfer_of_kept}
+use Rattle.command.specs.Ruling.{transfer_of_kept}
 use Rattle.command.specs.Inner.{same_numbers}
 use Rattle.command.specs.declared.transfer.TransferState.{TransferState}
 use Rattle.command.proofs.transfer.Laws.{held_most}

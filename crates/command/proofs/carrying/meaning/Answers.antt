@@ -1,11 +1,7 @@
 -- `meaning` meets its contract: by its codes, and with none test by test.
-use Rattle.std.proofs.Common.{◌≡◌, ℕ, Bool, true, false, cond, eqb, List, sym, ◌∙◌}
-use Rattle.std.proofs.Math.Option.{none, some}
+use Rattle.std.proofs.Common.{sym, ◌∙◌}
 use Rattle.std.proofs.lemmas.Bool.{eq-eqb, ne_eqb}
-use Rattle.command.specs.Lent.{record_of}
-use Rattle.command.specs.Ruling.{codes_told}
-use Rattle.command.specs.declared.judgement.Judgement.TheVariants.{Error}
-use Rattle.command.proofs.carrying.Laws.{drawn_told, drawn_out, drawn_unknown, drawn_known, in_rule_lem}
+use Rattle.command.proofs.carrying.Laws.{drawn_told, drawn_out, drawn_unknown, drawn_known}
 use Rattle.command.proofs.carrying.meaning.Goals as goal
 
 pub returns-then-any : goal.returns-then-any

@@ -1,10 +1,9 @@
 -- `perform` meets its contract, test by test.
-use Rattle.std.proofs.Common.{◌≡◌, ℕ, true, false, length, refl, ap, sym, ◌∙◌, arith, rules}
+use Rattle.std.proofs.Common.{refl, ap, sym, ◌∙◌, rules}
 use Rattle.std.proofs.lemmas.Bool.{lt-ltb, le-ltb}
 use Rattle.command.specs.Controller.{transfer_in_rule}
 use Rattle.command.specs.Asking.{carry_call}
 use Rattle.command.specs.Lent.{record_of, is_written}
-use Rattle.command.specs.Inner.{meant_of}
 use Rattle.command.proofs.controller.Laws.{rule_parts}
 use Rattle.command.proofs.carrying.Laws.{drawn_none, drawn_some, carries_is, carry_call_lem}
 use Rattle.command.proofs.carrying.perform.Goals as goal

@@ -1,5 +1,5 @@
 -- `serve` meets its contract, test by test.
-use Rattle.std.proofs.Common.{refl, sym, ◌∙◌}
+use Rattle.std.proofs.Common.{refl}
 use Rattle.std.proofs.lemmas.Bool.{lt-ltb, le-ltb}
 use Rattle.command.specs.Endpoint.{receive_call}
 use Rattle.command.proofs.endpoint.serve.Goals as goal

@@ -1,13 +1,12 @@
 -- `play` meets its contract.
-use Rattle.std.proofs.Common.{◌≡◌, ℕ, ◌+◌, ◌-◌, ◌<◌, ◌≤◌, Bool, true, false, List, length, take, drop, get_or, refl, sym, ap, ◌∙◌, arith, rules}
+use Rattle.std.proofs.Common.{◌≡◌, ℕ, ◌+◌, ◌-◌, ◌<◌, ◌≤◌, Bool, false, List, length, take, drop, get_or, refl, sym, ap, ◌∙◌, arith}
 use Rattle.std.proofs.Math.Option.{Option}
 use Rattle.std.proofs.lemmas.List.{length-take-le, length-drop}
 use Rattle.packet.specs.Stream.{size, has_packet}
 use Rattle.packet.proofs.NumberLaws.{bytes_at, bytes_take, bytes_drop}
 use Rattle.packet.proofs.StreamLaws.{size_most, next_none, no_header}
 use Rattle.command.specs.Controller.{transfer_in_rule}
-use Rattle.command.specs.Inner.{state_in}
-use Rattle.command.specs.Player.{State, judged, place_of}
+use Rattle.command.specs.Player.{State, judged}
 use Rattle.command.specs.declared.settings.Settings.{Settings}
 use Rattle.command.proofs.transfer.Laws.{open_is}
 use Rattle.command.proofs.carry.Laws.{buffer_kept}
