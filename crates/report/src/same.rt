@@ -8,24 +8,28 @@ use command::{
     DisplaySetting, LedCurrent, PatternSequence, Settings, StaticColour, VideoInput, VideoMode,
 };
 
+#[tactic(auto, unfolding(command::specs::Data::same_list))]
 fn same_current(a: LedCurrent, b: LedCurrent) -> bool
     ensures { result ≡ same_list (current_values a) (current_values b) }
 {
     (a.red.0 == b.red.0) & (a.green.0 == b.green.0) & (a.blue.0 == b.blue.0)
 }
 
+#[tactic(auto, unfolding(command::specs::Data::same_list))]
 fn same_colour(a: StaticColour, b: StaticColour) -> bool
     ensures { result ≡ same_list (colour_values a) (colour_values b) }
 {
     (a.blue == b.blue) & (a.green == b.green) & (a.red == b.red) & (a.last == b.last)
 }
 
+#[tactic(auto, unfolding(command::specs::Data::same_list))]
 fn same_setting(a: DisplaySetting, b: DisplaySetting) -> bool
     ensures { result ≡ same_list (setting_values a) (setting_values b) }
 {
     (a.long == b.long) & (a.short == b.short) & (a.rotate == b.rotate)
 }
 
+#[tactic(auto, unfolding(command::specs::Data::same_list))]
 fn same_input(a: VideoInput, b: VideoInput) -> bool
     ensures { result ≡ same_list (input_values a) (input_values b) }
 {
@@ -37,12 +41,14 @@ fn same_input(a: VideoInput, b: VideoInput) -> bool
         & (a.height == b.height)
 }
 
+#[tactic(auto, unfolding(command::specs::Data::same_list))]
 fn same_video(a: VideoMode, b: VideoMode) -> bool
     ensures { result ≡ same_list (video_values a) (video_values b) }
 {
     (a.rate == b.rate) & (a.depth == b.depth) & (a.led == b.led)
 }
 
+#[tactic(auto, unfolding(command::specs::Data::same_list))]
 fn same_sequence(a: PatternSequence, b: PatternSequence) -> bool
     ensures { result ≡ same_list (sequence_values a) (sequence_values b) }
 {
@@ -56,6 +62,7 @@ fn same_sequence(a: PatternSequence, b: PatternSequence) -> bool
         & (a.led == b.led)
 }
 
+#[tactic(auto, unfolding(command::specs::Data::same_list, crate::specs::Report::same_settings, crate::specs::Report::every))]
 pub(crate) fn same_settings(a: Settings, b: Settings) -> bool
     ensures { result ≡ same_settings a b }
 {
