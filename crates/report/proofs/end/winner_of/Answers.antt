@@ -22,23 +22,23 @@ returns-in_default-shipping c =
     let no = c.in_default-shipping.is in
     end_no a.r.now a.at a.count a.best no
     (shipping_missed a.r.now a.at a.count a.best (found c.in-Value.is c.record_at-due.ensures) c.word_at-winner.ensures.0
-        c.if-count-winner.false (missed a.r.now 4 (a.at + 6) no c.record_at-shipping.ensures))
+    c.if-count-winner.false (missed a.r.now 4 (a.at + 6) no c.record_at-shipping.ensures))
 
 pub returns-then-end-r : goal.returns-then-end-r
 returns-then-end-r c =
     let a = c.args in
     end_no a.r.now a.at a.count a.best c.refusal-then-end-r.ensures
     (end_20 a.r.now a.at a.count a.best (found c.in-Value.is c.record_at-due.ensures) c.word_at-winner.ensures.0 c.if-count-winner.false
-        (found c.in-Value-shipping.is c.record_at-shipping.ensures) c.if-end-r.true)
+    (found c.in-Value-shipping.is c.record_at-shipping.ensures) c.if-end-r.true)
 
 pub returns-then-winner-best : goal.returns-then-winner-best
 returns-then-winner-best c =
     let a = c.args in
     end_17 a.r.now a.at a.count a.best (found c.in-Value.is c.record_at-due.ensures) c.word_at-winner.ensures.0 c.if-count-winner.false
-        (found c.in-Value-shipping.is c.record_at-shipping.ensures) c.if-end-r.false c.refusal-then-winner-best.ensures c.if-winner-best.true
+    (found c.in-Value-shipping.is c.record_at-shipping.ensures) c.if-end-r.false c.refusal-then-winner-best.ensures c.if-winner-best.true
 
 pub returns : goal.returns
 returns c =
     let a = c.args in
     end_is a.r.now a.at a.count a.best (found c.in-Value.is c.record_at-due.ensures) c.word_at-winner.ensures.0 c.if-count-winner.false
-        (found c.in-Value-shipping.is c.record_at-shipping.ensures) c.if-end-r.false c.if-winner-best.false
+    (found c.in-Value-shipping.is c.record_at-shipping.ensures) c.if-end-r.false c.if-winner-best.false

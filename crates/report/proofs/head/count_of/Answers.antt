@@ -20,16 +20,16 @@ returns-then-version-ne-VERSION c =
     let r = c.args.r.now in
     subst (HeadAt r) (sym c.refusal-then-version-ne-VERSION.ensures)
     (head_14 r c.if-r-gt-LONGEST.false (found c.in-Value.is c.record_at-due.ensures) c.word_at-version.ensures.0 c.word_at-count.ensures.0
-        c.if-version-ne-VERSION.true)
+    c.if-version-ne-VERSION.true)
 
 pub returns-then-count-eq0 : goal.returns-then-count-eq0
 returns-then-count-eq0 c =
     let r = c.args.r.now in
     subst (HeadAt r) (sym c.refusal-then-count-eq0.ensures)
     (head_15 r c.if-r-gt-LONGEST.false (found c.in-Value.is c.record_at-due.ensures) c.word_at-version.ensures.0 c.word_at-count.ensures.0
-        c.if-version-ne-VERSION.false c.if-count-eq0.true)
+    c.if-version-ne-VERSION.false c.if-count-eq0.true)
 
 pub returns : goal.returns
 returns c =
     head_is c.args.r.now c.if-r-gt-LONGEST.false (found c.in-Value.is c.record_at-due.ensures) c.word_at-version.ensures.0
-        c.word_at-count.ensures.0 c.if-version-ne-VERSION.false c.if-count-eq0.false
+    c.word_at-count.ensures.0 c.if-version-ne-VERSION.false c.if-count-eq0.false

@@ -16,16 +16,16 @@ pub returns-then-k-kind : goal.returns-then-k-kind
 returns-then-k-kind c =
     let a = c.args in
     told_kind a.r.now a.kind a.at c.requires c.word_at-n.ensures.0 c.word_at-k.ensures.0 (omega arith) c.refusal-then-k-kind.ensures
-        c.if-k-kind.true
+    c.if-k-kind.true
 
 pub returns-then-not-has_size : goal.returns-then-not-has_size
 returns-then-not-has_size c =
     let a = c.args in
     told_size a.r.now a.kind a.at c.requires c.word_at-n.ensures.0 c.word_at-k.ensures.0 (omega arith) c.if-k-kind.false
-        c.refusal-then-not-has_size.ensures (sym c.has_size.ensures ∙ c.if-not-has_size.true)
+    c.refusal-then-not-has_size.ensures (sym c.has_size.ensures ∙ c.if-not-has_size.true)
 
 pub returns : goal.returns
 returns c =
     let a = c.args in
     told_record a.r.now a.kind a.at c.requires c.word_at-n.ensures.0 c.word_at-k.ensures.0 (omega arith) c.if-k-kind.false
-        (sym c.has_size.ensures ∙ c.if-not-has_size.false)
+    (sym c.has_size.ensures ∙ c.if-not-has_size.false)

@@ -49,7 +49,7 @@ returns-in_default-next c =
     let no = c.in_default-next.is in
     promised_no r (bytes_at r (λ i. (c.type_inv.r i).fits))
     (trials_no r (head_is r c.count_of-head.ensures c.in-Value.is)
-        (subst (λ (o : Outcome). BestAt r n o b.trial b.score b.settings) no c.best_of-best.ensures))
+    (subst (λ (o : Outcome). BestAt r n o b.trial b.score b.settings) no c.best_of-best.ensures))
     c.refused-in_default-next.ensures no
 
 pub returns-in_default-named : goal.returns-in_default-named
@@ -60,8 +60,8 @@ returns-in_default-named c =
     let no = c.in_default-named.is in
     promised_no r (bytes_at r (λ i. (c.type_inv.r i).fits))
     (winner_no r (head_is r c.count_of-head.ensures c.in-Value.is)
-        (best_is r n b.trial b.score b.settings c.best_of-best.ensures c.in-Value-next.is)
-        (subst (WinnerAt r c.in-Value-next.place n b.trial) no c.winner_of-named.ensures))
+    (best_is r n b.trial b.score b.settings c.best_of-best.ensures c.in-Value-next.is)
+    (subst (WinnerAt r c.in-Value-next.place n b.trial) no c.winner_of-named.ensures))
     c.refused-in_default-named.ensures no
 
 -- where a byte of them offends, it is one of the report's
@@ -92,8 +92,8 @@ returns-in-At c =
     let ten : at + 6 + 4 ≡ at + 10 = omega arith in
     promised_no r (bytes_at r (λ i. (c.type_inv.r i).fits))
     (refused_18 r (head_is r c.count_of-head.ensures c.in-Value.is)
-        (best_is r n b.trial b.score b.settings c.best_of-best.ensures c.in-Value-next.is)
-        (winner_is r at n b.trial c.winner_of-named.ensures c.in-Value-named.is) (sym p.1 ∙ ap place_of c.in-At.is))
+    (best_is r n b.trial b.score b.settings c.best_of-best.ensures c.in-Value-next.is)
+    (winner_is r at n b.trial c.winner_of-named.ensures c.in-Value-named.is) (sym p.1 ∙ ap place_of c.in-At.is))
     c.refused-in-At.ensures (rw ten at c.refusal.ensures)
 
 pub returns-then-not-same_settings : goal.returns-then-not-same_settings
@@ -106,9 +106,9 @@ returns-then-not-same_settings c =
     let p = played (ship_in r at) q.settings q.offence c.factory.ensures c.play-shipped.ensures in
     promised_no r (bytes_at r (λ i. (c.type_inv.r i).fits))
     (refused_19 r (head_is r c.count_of-head.ensures c.in-Value.is)
-        (best_is r n b.trial b.score b.settings c.best_of-best.ensures c.in-Value-next.is)
-        (winner_is r at n b.trial c.winner_of-named.ensures c.in-Value-named.is) (sym p.1 ∙ ap place_of c.in_default-offence.is)
-        (ap (λ (s : Settings). same_settings s b.settings) (sym p.0) ∙ sym c.same_settings.ensures ∙ c.if-not-same_settings.true))
+    (best_is r n b.trial b.score b.settings c.best_of-best.ensures c.in-Value-next.is)
+    (winner_is r at n b.trial c.winner_of-named.ensures c.in-Value-named.is) (sym p.1 ∙ ap place_of c.in_default-offence.is)
+    (ap (λ (s : Settings). same_settings s b.settings) (sym p.0) ∙ sym c.same_settings.ensures ∙ c.if-not-same_settings.true))
     c.refused-then-not-same_settings.ensures c.refusal-then-not-same_settings.ensures
 
 pub returns : goal.returns
@@ -121,7 +121,7 @@ returns c =
     let p = played (ship_in r at) q.settings q.offence c.factory.ensures c.play-shipped.ensures in
     promised_yes r (bytes_at r (λ i. (c.type_inv.r i).fits))
     (accepted_with r (head_is r c.count_of-head.ensures c.in-Value.is)
-        (best_is r n b.trial b.score b.settings c.best_of-best.ensures c.in-Value-next.is)
-        (winner_is r at n b.trial c.winner_of-named.ensures c.in-Value-named.is) (sym p.1 ∙ ap place_of c.in_default-offence.is)
-        (ap (λ (s : Settings). same_settings s b.settings) (sym p.0) ∙ sym c.same_settings.ensures ∙ c.if-not-same_settings.false))
+    (best_is r n b.trial b.score b.settings c.best_of-best.ensures c.in-Value-next.is)
+    (winner_is r at n b.trial c.winner_of-named.ensures c.in-Value-named.is) (sym p.1 ∙ ap place_of c.in_default-offence.is)
+    (ap (λ (s : Settings). same_settings s b.settings) (sym p.0) ∙ sym c.same_settings.ensures ∙ c.if-not-same_settings.false))
     c.in-Value-named.is
