@@ -51,7 +51,7 @@ fn judge(
 // What the packet would draw. The controller is only read, and with a refusal nothing is written.
 #[unsafe(no_mangle)]
 pub extern "C" fn imjarlet_judge(c: &Controller, packet: &[u8], j: &mut JudgementRecord) -> u32
-    ensures { Asks (judge_call c.now packet.now j.old) result j.new × (c.now ≡ c.now) }
+    ensures { Asks (judge_call c.now packet.now j.old) result j.new × (c.exit.now ≡ c.entry.now) }
 {
     let s = judge(c.settings, c.registers, &c.buffer, packet, &mut j.joined);
     if s.judged {
