@@ -36,7 +36,7 @@ length_of (Writes n) = n
 abbrev pub outcome_told : ℕ → ℕ → Outcome
 outcome_told refusal size = cond (eqb refusal 0) (Writes size) (Refuses refusal)
 
--- the whole_packet write of a command with its data
+-- the whole-packet write of a command with its data
 unfoldable pub write_packet : Command → List ℕ → List ℕ
 write_packet c d = packet_of host_write (cmd1_for c) (cmd2_for c) whole d
 
@@ -44,12 +44,12 @@ write_packet c d = packet_of host_write (cmd1_for c) (cmd2_for c) whole d
 unfoldable pub encoded : Value → List ℕ
 encoded v = write_packet (command_in v) (data_in v)
 
--- one whole_packet write for each of these commands
+-- one whole-packet write for each of these commands
 unfoldable pub list_of : List Command → Settings → List ℕ
 list_of [] s = []
 list_of (c ∷ cs) s = write_packet c (data_of c s) ++ list_of cs s
 
--- Standard shipping list: one whole_packet write for each command, in table order.
+-- Standard shipping list: one whole-packet write for each command, in table order.
 unfoldable pub standard_list : Settings → List ℕ
 standard_list s = list_of table s
 

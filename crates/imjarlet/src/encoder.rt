@@ -41,7 +41,7 @@ fn encode(cmd1: u8, cmd2: u8, settings: Settings, out: &mut [u8], size: &mut u64
     told(command::encode(command::value_of(settings, c), out), size)
 }
 
-// The whole_packet write of what the settings have for this command. Nothing else of the settings is
+// The whole-packet write of what the settings have for this command. Nothing else of the settings is
 // looked at.
 #[unsafe(no_mangle)]
 pub extern "C" fn imjarlet_encode(
@@ -63,7 +63,7 @@ fn list(settings: Settings, out: &mut [u8], size: &mut u64) -> u32
     told(command::standard_list(settings, out), size)
 }
 
-// One whole_packet write for each command, in table order.
+// One whole-packet write for each command, in table order.
 #[unsafe(no_mangle)]
 pub extern "C" fn imjarlet_standard_list(settings: &Settings, out: &mut [u8], size: &mut u64) -> u32
     ensures { Emits (list_call settings.now out.old) result size.new out.new }
