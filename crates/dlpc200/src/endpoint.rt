@@ -20,6 +20,7 @@ pub struct Step {
 }
 
 // A packet that is complete, as the device took it: it is judged and answered.
+#[tactic(auto, unfolding(crate::specs::Response::response, crate::specs::Endpoint::judged_in, crate::specs::Endpoint::response_in))]
 fn complete(t: Received, out: &mut [u8]) -> Step
     requires { 64 ≤ length out.old }
     ensures { (outcome_of result.answer ≡ (answered t.device.states (received_by t) out.old).answer)
@@ -43,6 +44,7 @@ fn complete(t: Received, out: &mut [u8]) -> Step
 }
 
 // Takes bytes until the input ends or one packet is complete.
+#[tactic(auto, unfolding(crate::specs::Endpoint::judged_in, crate::specs::Endpoint::response_in, crate::specs::Endpoint::receive_call))]
 pub fn receive(d: Device, input: &[u8], out: &mut [u8]) -> Step
     ensures { (outcome_of result.answer ≡ (receive_call d input.now out.old).answer)
         × (result.device ≡ (receive_call d input.now out.old).device)

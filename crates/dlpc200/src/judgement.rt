@@ -20,6 +20,7 @@ pub(crate) enum Judgement {
 }
 
 // The command of a packet with this header, these being its first data bytes.
+#[tactic(auto, unfolding(crate::specs::Judgement::command_in))]
 fn command_in(header: [u8; HEADER], hold: [u8; HOLD]) -> Found
     ensures { result ≡ command_in (payload_length header) hold }
 {
@@ -30,6 +31,7 @@ fn command_in(header: [u8; HEADER], hold: [u8; HOLD]) -> Found
 }
 
 // CMD1 is neither 02 nor 04, or the wrong one for its command.
+#[tactic(auto, unfolding(crate::specs::Judgement::wrong_cmd1))]
 fn wrong_cmd1(found: Found, cmd1: u8) -> bool
     ensures { result ≡ wrong_cmd1 found cmd1 }
 {
@@ -41,6 +43,7 @@ fn wrong_cmd1(found: Found, cmd1: u8) -> bool
 }
 
 // The data are of the wrong size: under two or over 504 bytes, or not the command's size.
+#[tactic(auto, unfolding(crate::specs::Judgement::wrong_size))]
 fn wrong_size(found: Found, size: usize) -> bool
     ensures { result ≡ wrong_size found size }
 {
@@ -52,6 +55,7 @@ fn wrong_size(found: Found, size: usize) -> bool
 }
 
 // Every fault that holds of a packet of this command.
+#[tactic(auto, unfolding(crate::specs::Judgement::faults_of))]
 fn faults_in(found: Found, header: [u8; HEADER], right: bool) -> Faults
     ensures { result ≡ faults_of (arrived_of found header right) }
 {
@@ -65,6 +69,7 @@ fn faults_in(found: Found, header: [u8; HEADER], right: bool) -> Faults
 }
 
 // A complete packet: its header, its first data bytes, and whether its checksum was right.
+#[tactic(auto, unfolding(crate::specs::Judgement::judge))]
 pub(crate) fn judge(header: [u8; HEADER], hold: [u8; HOLD], right: bool) -> Judgement
     ensures { result ≡ judge_of (arrived_by header hold right) }
 {

@@ -70,6 +70,7 @@ pub(crate) fn status1(f: Faults) -> u8
 }
 
 // How many faults a response carries beside bit 6 of Data[0].
+#[tactic(auto, unfolding(crate::specs::Status::fault_bits))]
 pub fn fault_count(data0: u8, data1: u8) -> u32
     ensures { result ≡ fault_bits data0 data1 }
 {

@@ -24,6 +24,7 @@ pub(crate) enum Found {
 }
 
 impl Command {
+    #[tactic(auto, unfolding(crate::specs::Table::find, crate::specs::Table::command_of))]
     pub(crate) fn find(id: usize) -> Found
         ensures { result ≡ command_of id }
     {
