@@ -52,7 +52,7 @@ def unread(log, changed):
 
 
 def stamps(folder):
-    """The files of a folder, each with its size and time stamp."""
+    """The files of a folder, each with its size and time stamp, and what was proved with its number on the disk."""
     files = {}
     for path in folder.rglob("*"):
         if path.is_file():
