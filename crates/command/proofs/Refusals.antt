@@ -1,13 +1,13 @@
 -- When the calls refuse: the tests are the lines of document 01's table, and a refusal touches nothing lent.
 use Prim.Native.Nat.{ℕ, ◌+◌}
 use mathlib.Core.Path.{◌≡◌, refl, ap, sym, ◌∙◌}
-use mathlib.Core.Logic.{◌↔◌, inl, inr}
-use mathlib.Core.Bool.{Bool, true, false, cond, not, ◌&&◌, ◌||◌, and-false}
+use mathlib.Core.Logic.{◌↔◌}
+use mathlib.Core.Bool.{false, cond, not, ◌&&◌, ◌||◌, and-false}
 use mathlib.Core.List.{List, [], ◌∷◌}
 use native.Mathlib.Omega.{arith}
 use lib.Dec.{eqb, ltb, leb}
 use lib.ListN.{length}
-use borrow.Author.Tests.{le-ltb, lt-leb, leb-false, ltb-true, ltb-false, ne_eqb, eqb-true, eqb-false, not-true, not-false}
+use borrow.Author.Tests.{le-ltb, lt-leb, leb-false, ltb-false, ne_eqb, eqb-true, eqb-false, not-true, not-false}
 use Rattle.packet.specs.Packet.{payload_length}
 use Rattle.packet.specs.Answer.{Refuses, Waits, Answers, Answering}
 use Rattle.packet.specs.Receiver.{packet_in_rule}

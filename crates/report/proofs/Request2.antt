@@ -1,6 +1,6 @@
 -- Request 2 of reports, proved: the end settings of every trial keep the rules, those of an accepted report are a trial's, and a packet that draws 03 offends.
 use Prim.Native.Nat.{ℕ}
-use mathlib.Core.Path.{◌≡◌, sym, subst}
+use mathlib.Core.Path.{sym, subst}
 use mathlib.Core.List.{List}
 use Rattle.packet.specs.Stream.{bytes_in}
 use Rattle.command.specs.Settings.{factory}

@@ -8,11 +8,11 @@ use lib.Dec.{eqb}
 use lib.ListN.{length}
 use borrow.Author.Tests.{eq-eqb, eqb-true, le-ltb}
 use Rattle.packet.specs.Number.{Bytes}
-use Rattle.packet.specs.Packet.{type_of, cmd1_of, cmd2_of, flags_of, payload_length, payload, sum, sealed, packet_of, host_write, host_read, whole}
+use Rattle.packet.specs.Packet.{type_of, cmd1_of, cmd2_of, flags_of, payload_length, payload, sealed, packet_of, host_write, host_read, whole}
 use Rattle.packet.proofs.NumberLaws.{bytes_take, bytes_drop}
 use Rattle.packet.proofs.StreamLaws.{IsPacket}
 use Rattle.packet.proofs.WriterLaws.{length_written, packet_written, payload_written, sum_written, packet_remade}
-use Rattle.command.specs.Table.{cmd1_for, cmd2_for, command_of, is_known, can_read, layout, size_of}
+use Rattle.command.specs.Table.{cmd1_for, cmd2_for, is_known, can_read, layout, size_of}
 use Rattle.command.specs.Settings.{store}
 use Rattle.command.specs.Rules.{allowed, blocked}
 use Rattle.command.specs.Data.{join_all, Fit}

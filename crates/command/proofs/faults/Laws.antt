@@ -9,7 +9,7 @@ use native.Mathlib.Omega.{arith}
 use lib.Dec.{eqb, ltb}
 use lib.ListN.{length}
 use borrow.Author.Tests.{lt-ltb, ltb-true, eq-eqb, ne_eqb, eqb-true, eqb-false, not-true, not-false}
-use Rattle.packet.specs.Packet.{host_write, host_read, whole, beginning, intermediate, last, checksum}
+use Rattle.packet.specs.Packet.{host_write, host_read, whole, beginning, intermediate, last}
 use Rattle.packet.proofs.Cases.{bool_cases, and_left, and_right, and_both, or_left, or_right, or_cases, or_that, never}
 use Rattle.command.specs.Table.{cmd1_for, cmd2_for, command_of, same, readable}
 use Rattle.command.specs.Transfer.{Transfer, Closed, Opened, is_open, held, open_for}

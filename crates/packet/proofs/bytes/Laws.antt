@@ -1,5 +1,5 @@
 -- Runs of stores, and sums of bytes.
-use Rattle.std.proofs.Common.{◌≡◌, ℕ, suc, ◌+◌, ◌-◌, ◌%◌, ◌<◌, ◌≤◌, List, [], ◌∷◌, ◌++◌, length, get_or, take, drop, set, sym, refl, ap, ◌∙◌, append-nil, add-zero, zero-add, add-one, arith, take-append-drop, drop_of_length-le, length-take-le, drop-cons, get_or-take}
+use Rattle.std.proofs.Common.{◌≡◌, ℕ, suc, ◌+◌, ◌%◌, ◌<◌, ◌≤◌, List, [], ◌∷◌, ◌++◌, length, get_or, take, drop, set, sym, refl, ap, ◌∙◌, append-nil, add-zero, zero-add, add-one, arith, take-append-drop, drop_of_length-le, length-take-le, drop-cons, get_or-take}
 use lib.ListN.{get_or-append}
 use lib.Seq.{sets, sets-eq, length-sets, set_out}
 use Rattle.packet.specs.Packet.{sum}

@@ -1,5 +1,5 @@
 -- The receiver on streams: cutting a stream changes nothing, and a whole packet completes at its last byte. The checksum covers the bytes from place k on.
-use Rattle.std.proofs.Common.{◌≡◌, ℕ, suc, ◌+◌, ◌-◌, ◌%◌, ◌<◌, ◌≤◌, Bool, true, false, cond, eqb, leb, List, [], ◌∷◌, ◌++◌, length, get_or, take, drop, sym, refl, ap, ◌∙◌, ap₂, append-nil, add-zero, zero-add, arith, length-append, length-drop, drop_of_length-le, length-take-le, get_or-take, take-take, get_or-append-add, take-add, drop_at, le-ltb, lt-ltb, le-leb}
+use Rattle.std.proofs.Common.{◌≡◌, ℕ, ◌+◌, ◌-◌, ◌%◌, ◌<◌, ◌≤◌, Bool, true, false, cond, eqb, leb, List, [], ◌∷◌, ◌++◌, length, get_or, take, drop, sym, refl, ap, ◌∙◌, append-nil, add-zero, zero-add, arith, length-append, length-drop, drop_of_length-le, length-take-le, get_or-take, take-take, get_or-append-add, take-add, drop_at, le-ltb, lt-ltb, le-leb}
 use borrow.Author.Tests.{lt-leb}
 use lib.ListN.{get_or-append}
 use lib.Seq.{sets, length-sets, drop-nil, take-append-add, take-append-le, drop-append-add, drop-append-le}

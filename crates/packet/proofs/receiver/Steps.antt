@@ -1,5 +1,5 @@
 -- The steps of the receive call, put together: the payload kept, and the two ends.
-use Rattle.std.proofs.Common.{◌≡◌, ℕ, ◌+◌, ◌-◌, ◌%◌, ◌<◌, ◌≤◌, min, Bool, true, false, cond, eqb, List, length, get_or, take, drop, sym, refl, ap, ◌∙◌, arith, length-drop, take-append-drop, drop_of_length-le, length-take-le, take_all}
+use Rattle.std.proofs.Common.{◌≡◌, ℕ, ◌+◌, ◌-◌, ◌<◌, ◌≤◌, min, true, false, eqb, List, length, get_or, take, drop, sym, ap, ◌∙◌, arith, length-drop, take-append-drop, drop_of_length-le, length-take-le, take_all}
 use lib.Seq.{sets}
 use Rattle.packet.specs.Packet.{payload_length}
 use Rattle.packet.specs.Receiver.{Receiver, running_with, with, missing, waiting, completed, receiving, received_of}

@@ -1,8 +1,5 @@
 -- `judge` meets its contract: by the codes that were found, and with none by the joined data.
-use Rattle.std.proofs.Common.{◌≡◌, ◌≤◌, ◌++◌, ℕ, Bool, cond, List, length, take, sym, ap, ◌∙◌, true, arith, length-take-le}
-use Rattle.packet.specs.Packet.{type_of, flags_of}
-use Rattle.command.specs.Judgement.{judge_data, judge}
-use Rattle.command.specs.Controller.{held_in, transfer_in, packet_in, transfer_in_rule}
+use Rattle.std.proofs.Common.{◌≤◌, sym, ap, ◌∙◌, arith, length-take-le}
 use Rattle.command.specs.declared.judgement.Judgement.TheVariants.{Error}
 use Rattle.command.proofs.transfer.Laws.{held_most}
 use Rattle.command.proofs.judgement.Laws.{judge_unknown, judge_known}

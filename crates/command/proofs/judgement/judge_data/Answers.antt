@@ -1,5 +1,5 @@
 -- `judge_data` meets its contract, test by test.
-use Rattle.std.proofs.Common.{sym, ◌∙◌, eq-eqb, ne_eqb, length-append}
+use Rattle.std.proofs.Common.{◌∙◌, eq-eqb, ne_eqb, length-append}
 use Rattle.packet.specs.Packet.{type_of, host_read}
 use Rattle.command.specs.Judgement.{judge_data}
 use Rattle.command.proofs.judgement.judge_data.Goals as goal

@@ -1,5 +1,5 @@
 -- `settings_in_rule` meets its contract: each line of the table is asked until one says no, and the video input last.
-use Rattle.std.proofs.Common.{◌≡◌, ℕ, zero, suc, sym, ap, ◌∙◌, Bool, true, false, not, ◌&&◌, List, [], ◌∷◌, get_or}
+use Rattle.std.proofs.Common.{◌≡◌, ℕ, zero, suc, sym, ap, ◌∙◌, Bool, true, not, ◌&&◌, List, [], ◌∷◌, get_or}
 use mathlib.Core.Bool.{and_assoc, and-true, and-false}
 use Rattle.packet.proofs.Cases.{bool_cases}
 use Rattle.command.specs.Rules.{mode_fields, pattern_fields, current_fields, colour_fields, setting_fields, input_fields, video_fields, sequence_fields, run_fields, allowed, blocked, all_allowed, settings_in_rule}

@@ -1,5 +1,5 @@
 -- `parse` meets its contract.
-use Rattle.std.proofs.Common.{◌≡◌, ℕ, ◌+◌, List, [], ◌∷◌, ◌++◌, length, refl, ap, sym, ◌∙◌, arith, length-append, eq-eqb, ne_eqb}
+use Rattle.std.proofs.Common.{◌≡◌, ℕ, List, [], ◌∷◌, ◌++◌, length, refl, ap, sym, ◌∙◌, arith, length-append, eq-eqb, ne_eqb}
 use Rattle.command.specs.Table.{layout}
 use Rattle.command.specs.Value.{value_from}
 use Rattle.command.specs.Inner.{total, split_from, contents, parsed}

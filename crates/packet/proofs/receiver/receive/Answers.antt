@@ -1,7 +1,6 @@
 -- `receive` meets its contract.
 use Rattle.std.proofs.Common.{◌≡◌, ℕ, ◌+◌, ◌-◌, length, ap, ◌∙◌, arith, rules}
-use Rattle.packet.specs.Packet.{payload_length}
-use Rattle.packet.specs.Receiver.{Receiver, receiver_of}
+use Rattle.packet.specs.Receiver.{receiver_of}
 use Rattle.packet.proofs.receiver.Steps.{receive_completes, receive_waits}
 use Rattle.packet.proofs.receiver.receive.Goals as goal
 

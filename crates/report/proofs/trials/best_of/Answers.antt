@@ -1,9 +1,9 @@
 -- `best_of` meets its contract.
-use Rattle.std.proofs.Common.{◌+◌, ◌≤◌, sym, subst, arith, rules}
+use Rattle.std.proofs.Common.{sym, subst, arith}
 use Rattle.command.specs.declared.settings.Settings.{Settings}
 use Rattle.report.specs.Inner.{BestAt}
 use Rattle.report.specs.declared.record.Outcome.{Outcome}
-use Rattle.report.proofs.record.Laws.{found, missed, size_trial}
+use Rattle.report.proofs.record.Laws.{found, missed}
 use Rattle.report.proofs.trials.Turns.{Walked, walked_start, walked_better, walked_other, walked_missed, walked_end}
 use Rattle.report.proofs.trials.best_of.Goals as goal
 use Rattle.report.proofs.trials.best_of.Goals.{then-i-score, else-i-score}

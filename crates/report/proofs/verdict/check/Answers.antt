@@ -1,7 +1,6 @@
 -- `check` meets its contract.
 use Rattle.std.proofs.Common.{◌≡◌, ℕ, ◌+◌, ◌-◌, ◌<◌, ◌≤◌, Bool, cond, List, length, drop, ap, sym, ◌∙◌, subst, arith, length-take, length-drop}
-use Rattle.std.proofs.Math.Option.{none, some}
-use Rattle.packet.specs.Number.{Bytes}
+use Rattle.std.proofs.Math.Option.{some}
 use Rattle.packet.proofs.NumberLaws.{bytes_at}
 use Rattle.command.specs.Settings.{factory}
 use Rattle.command.specs.Player.{play, offence, end_settings, end_offence, place_of}
