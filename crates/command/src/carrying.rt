@@ -89,11 +89,11 @@ fn accepted(c: Command, n: Ruling, joined: &[u8]) -> Meant
     let kept = n.kept;
     let t = kept.transfer();
     let closed = t.active == 0;
-    let in_order_lem = closed | open_for(Found::Known(c), t);
-    if (n.accepts == HOLDS) & in_order_lem {
+    let in_order = closed | open_for(Found::Known(c), t);
+    if (n.accepts == HOLDS) & in_order {
         return Meant::By(Judgement::Hold(c));
     }
-    if (n.accepts == WRITES) & in_order_lem {
+    if (n.accepts == WRITES) & in_order {
         let j = judge_joined(c, kept.mode, joined, n.count as usize);
         if accepts(j) == WRITES {
             return Meant::By(j);
