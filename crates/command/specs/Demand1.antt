@@ -95,7 +95,7 @@ Ascending n (x ∷ xs) = (n < x) × Ascending x xs
 
 -- The faults of the packet p call for an error packet with these codes.
 pub data Draws (mode : ℕ) (t : Transfer) (p : Arrived) : List ℕ → Type 0 where
-  -- First group, every one that holds is reported (`List.Memᴰ n codes`: n is one of the codes): one byte for each code, ascending, none twice.
+  -- First group, every one that holds is reported (`Memᴰ n codes`: n is one of the codes): one byte for each code, ascending, none twice.
   FirstGroup : (codes : List ℕ) → (codes ≡ [] → ⊥) → Ascending 0 codes → ((n : ℕ) → Memᴰ n codes ↔ FirstFault t p n) → Draws mode t p codes
   -- Only with none of these, and only for flags 00 or 03.
   Alone : (n : ℕ) → ((k : ℕ) → FirstFault t p k → ⊥) → Completes p.flags → LaterFault mode t p n → Draws mode t p (n ∷ [])

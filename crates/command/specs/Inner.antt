@@ -60,7 +60,7 @@ abbrev pub number_at : ℕ → List ℕ → ℕ → ℕ
 number_at zero d at = 0
 number_at (suc w) d at = get_or d at 0 + 256 * number_at w d (at + 1)
 
--- the fields of d from a place on, by their widths: split_all where the place is 0 (law split-places of data/Laws)
+-- the fields of d from a place on, by their widths: split_all where the place is 0 (law split_places of data/Laws)
 abbrev pub split_from : ℕ → List ℕ → List ℕ → List ℕ
 split_from at [] d = []
 split_from at (w ∷ ws) d = number_at w d at ∷ split_from (at + w) ws d
@@ -84,7 +84,7 @@ pub record Holds (d : Data) (b : List ℕ) : Type 0 where
   pub bytes : contents d ≡ b
   pub room : d.count ≤ 17
 
--- The open transfer by the controller's numbers: those of specs/Transfer by the laws open-is and open_for_is of transfer/Laws.
+-- The open transfer by the controller's numbers: those of specs/Transfer by the laws open_is and open_for_is of transfer/Laws.
 
 abbrev pub is_open_in : TransferState → Bool
 is_open_in t = not (eqb t.active 0)
@@ -138,7 +138,7 @@ with_transfer r t =
 abbrev pub settled : Controller → Bool → ℕ → List ℕ → After
 settled c right n out = answered c (record { taken = n; complete = true; right = right; receiver = receiver_in c }) out
 
--- one of the codes holds: there is one in their list (law any-code of faults/Laws)
+-- one of the codes holds: there is one in their list (law any_code_lem of faults/Laws)
 abbrev pub any_code : Codes → Bool
 any_code k =
     k.failure || k.command || k.parameter || k.memory || k.device || k.busy || k.precondition || k.object || k.checksum || k.format || k.continuation

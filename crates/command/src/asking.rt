@@ -16,7 +16,7 @@ use crate::transfer::{HOLD, TransferState};
 use packet::{HEADER, Next};
 
 // What the judge call answers.
-#[derive(Drop)]
+#[derive(Clone, Copy)]
 pub enum Asked {
     // The judgement of the packet.
     Judged,
@@ -27,7 +27,7 @@ pub enum Asked {
 }
 
 // The answer, and the numbers of the judgement.
-#[derive(Drop)]
+#[derive(Clone, Copy)]
 pub struct Asking {
     pub ruling: Ruling,
     pub answer: Asked,
@@ -115,7 +115,7 @@ pub fn ask(
 }
 
 // The judgement of a packet, where the answer is that there is one.
-#[derive(Drop)]
+#[derive(Clone, Copy)]
 pub struct Judged {
     pub judgement: JudgementRecord,
     pub answer: Asked,

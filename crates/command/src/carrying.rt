@@ -22,7 +22,7 @@ use crate::table::{Command, Found};
 use crate::transfer::{HOLD, TransferState};
 
 // What the call answers.
-#[derive(Drop)]
+#[derive(Clone, Copy)]
 pub enum CarriedOut {
     // The length of the response.
     Length(usize),
@@ -181,7 +181,7 @@ fn end(held: usize, count: usize) -> usize
 }
 
 // What the call leaves of a controller beside its arrays, and the answer.
-#[derive(Drop)]
+#[derive(Clone, Copy)]
 pub struct Performed {
     pub settings: Settings,
     pub registers: Registers,
@@ -267,7 +267,7 @@ pub fn perform(
 }
 
 // The answer, and the controller afterwards.
-#[derive(Drop)]
+#[derive(Clone, Copy)]
 pub struct CarryStep {
     pub controller: Controller,
     pub answer: CarriedOut,

@@ -16,7 +16,7 @@ pub const LIST_OUTPUT: usize = 128;
 const COMMANDS: usize = 9;
 
 // What the two calls answer.
-#[derive(Drop)]
+#[derive(Clone, Copy)]
 pub enum Encoded {
     // How many bytes stand at the output's start.
     Length(usize),

@@ -18,7 +18,7 @@ use crate::transfer::HOLD;
 use packet::Answer;
 
 // What a call answers, and the settings and the registers that it leaves.
-#[derive(Drop)]
+#[derive(Clone, Copy)]
 pub struct Served {
     pub settings: Settings,
     pub registers: Registers,
@@ -143,7 +143,7 @@ pub fn serve(
 }
 
 // An answer, and the controller afterwards.
-#[derive(Drop)]
+#[derive(Clone, Copy)]
 pub struct Step {
     pub controller: Controller,
     pub answer: Answer,

@@ -49,7 +49,7 @@ impl Offence {
 }
 
 // Where a play ended.
-#[derive(Drop)]
+#[derive(Clone, Copy)]
 pub struct Played {
     pub settings: Settings,
     pub offence: Offence,

@@ -13,7 +13,7 @@ use packet::Answer;
 const OUTPUT: usize = 64;
 
 // An answer, and the device afterwards.
-#[derive(Drop)]
+#[derive(Clone, Copy)]
 pub struct Step {
     pub device: Device,
     pub answer: Answer,

@@ -1,7 +1,7 @@
 // What a receive call answers, on every kind of head.
 ghost use Rattle.packet.specs.Answer.{outcome_of, Told};
 
-#[derive(Drop)]
+#[derive(Clone, Copy)]
 pub enum Answer {
     // The input ended before a packet did; all of it was taken.
     Waiting(usize),

@@ -12,7 +12,7 @@ pub const CHECKSUM_FROM: usize = 0;
 
 // What one call took, and the sum and the count of the current packet from now on. `right` tells
 // whether the checksum was, once a packet is complete.
-#[derive(Drop)]
+#[derive(Clone, Copy)]
 pub struct Taken {
     pub taken: usize,
     pub complete: bool,

@@ -8,7 +8,7 @@ use crate::number::word;
 use crate::packet::FRAME;
 
 // What stands at a place of a slice.
-#[derive(Drop)]
+#[derive(Clone, Copy)]
 pub enum Next {
     // A whole packet.
     Packet {

@@ -9,7 +9,7 @@ use crate::packet::{FRAME, HEADER, PAYLOAD_MAX};
 
 // How many bytes were written; or that the packet does not go into the buffer, or the data into a
 // packet.
-#[derive(Drop)]
+#[derive(Clone, Copy)]
 pub enum Written {
     Length(usize),
     NoRoom,

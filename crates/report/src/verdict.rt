@@ -13,7 +13,7 @@ use crate::trials::best_of;
 use command::{Offence, Settings, play};
 
 // The answer to a report.
-#[derive(Drop)]
+#[derive(Clone, Copy)]
 pub struct Checked {
     // The trial that the report names, or the refusal.
     pub trial: Outcome,

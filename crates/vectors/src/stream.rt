@@ -22,10 +22,10 @@ fn sizes(rt: &impl Print, b: &[u8]) {
     }
 }
 
-fn taken_by(a: &Answer) -> usize {
+fn taken_by(a: Answer) -> usize {
     match a {
-        Answer::Waiting(taken) => *taken,
-        Answer::Answered { taken, length: _ } => *taken,
+        Answer::Waiting(taken) => taken,
+        Answer::Answered { taken, length: _ } => taken,
         _ => 0,
     }
 }
@@ -93,8 +93,8 @@ fn feed(rt: &impl Print, mut said: Said, b: &[u8], cut: usize, size: usize) -> F
         c = s.controller;
         let answer = s.answer;
         let wrong = s.wrong;
-        let next = further(at, taken_by(&answer), end);
         said = respond(rt, said, answer, wrong, &out);
+        let next = further(at, taken_by(answer), end);
         if next == at {
             return Fed {
                 said,
