@@ -2,7 +2,7 @@
  * The DLPC200 on its SPI port, for C: the extended packets (section 6 of its SPI slave interface
  * specification) of the commands 0005, 0006, 0015, 0016, 0017, 0029 and 002A.
  *
- * Link with crates/dlpc200/out/libdlpc200.a on the machine itself, which `scripts/built dlpc200` makes,
+ * Link with target/staticlib/libdlpc200.a on the machine itself, which `scripts/built dlpc200` makes,
  * or for firmware with target/firmware/TARGET/libdlpc200.a, which `scripts/firmware TARGET dlpc200`
  * makes. Firmware supplies memcpy, memmove and memset; the library calls nothing else. C99 or later.
  *

@@ -1,7 +1,7 @@
 /*
  * Imjarlet: the command endpoint of a projector head, and the checker of tuning reports, for C.
  *
- * Link with crates/imjarlet/out/libimjarlet.a on the machine itself, which `scripts/built imjarlet` makes,
+ * Link with target/staticlib/libimjarlet.a on the machine itself, which `scripts/built imjarlet` makes,
  * or for firmware with target/firmware/TARGET/libimjarlet.a, which `scripts/firmware TARGET` makes.
  * Firmware supplies memcpy, memmove and memset; the library calls nothing else. C99 or later.
  *

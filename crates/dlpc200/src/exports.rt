@@ -31,8 +31,7 @@ fn step(device: Device, input: &[u8], out: &mut [u8], taken: &mut u64, size: &mu
 }
 
 // A device between two packets, with the states that the host supplies.
-#[unsafe(no_mangle)]
-pub extern "C" fn dlpc200_reset(device: &mut Device, states: &States) -> u32
+pub fn dlpc200_reset(device: &mut Device, states: &States) -> u32
     ensures { (result ≡ 0) × (device.new ≡ device_with states.now) }
 {
     *device = Device::with(*states);
@@ -40,8 +39,7 @@ pub extern "C" fn dlpc200_reset(device: &mut Device, states: &States) -> u32
 }
 
 // Takes bytes until the input ends or one packet is complete.
-#[unsafe(no_mangle)]
-pub extern "C" fn dlpc200_receive(
+pub fn dlpc200_receive(
     device: &mut Device,
     input: &[u8],
     out: &mut [u8],
@@ -57,8 +55,7 @@ pub extern "C" fn dlpc200_receive(
 }
 
 // How many faults a response carries beside bit 6, by its Data[0] and Data[1].
-#[unsafe(no_mangle)]
-pub extern "C" fn dlpc200_faults(data0: u8, data1: u8) -> u32
+pub fn dlpc200_faults(data0: u8, data1: u8) -> u32
     ensures { result ≡ fault_bits data0 data1 }
 {
     crate::status::fault_count(data0, data1)

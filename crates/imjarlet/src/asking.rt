@@ -49,8 +49,7 @@ fn judge(
 }
 
 // What the packet would draw. The controller is only read, and with a refusal nothing is written.
-#[unsafe(no_mangle)]
-pub extern "C" fn imjarlet_judge(c: &Controller, packet: &[u8], j: &mut JudgementRecord) -> u32
+pub fn imjarlet_judge(c: &Controller, packet: &[u8], j: &mut JudgementRecord) -> u32
     ensures { Asks (judge_call c.now packet.now j.old) result j.new × (c.exit.now ≡ c.entry.now) }
 {
     let s = judge(c.settings, c.registers, &c.buffer, packet, &mut j.joined);
@@ -115,8 +114,7 @@ fn carry_out(
 
 // Carries out a judgement. What is half received stays where it is, and the settings are stored only
 // where the judgement was carried out.
-#[unsafe(no_mangle)]
-pub extern "C" fn imjarlet_carry_out(
+pub fn imjarlet_carry_out(
     c: &mut Controller,
     j: &JudgementRecord,
     out: &mut [u8],

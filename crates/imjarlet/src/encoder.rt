@@ -43,8 +43,7 @@ fn encode(cmd1: u8, cmd2: u8, settings: Settings, out: &mut [u8], size: &mut u64
 
 // The whole-packet write of what the settings have for this command. Nothing else of the settings is
 // looked at.
-#[unsafe(no_mangle)]
-pub extern "C" fn imjarlet_encode(
+pub fn imjarlet_encode(
     cmd1: u8,
     cmd2: u8,
     settings: &Settings,
@@ -64,8 +63,7 @@ fn list(settings: Settings, out: &mut [u8], size: &mut u64) -> u32
 }
 
 // One whole-packet write for each command, in table order.
-#[unsafe(no_mangle)]
-pub extern "C" fn imjarlet_standard_list(settings: &Settings, out: &mut [u8], size: &mut u64) -> u32
+pub fn imjarlet_standard_list(settings: &Settings, out: &mut [u8], size: &mut u64) -> u32
     ensures { Emits (list_call settings.now out.old) result size.new out.new }
 {
     list(*settings, out, size)

@@ -9,8 +9,7 @@ ghost use Rattle.imjarlet.specs.Exports.{Tells, Receives};
 use command::{Controller, HOLD, Registers, Settings, WrongByte};
 
 // Puts a fresh controller where the caller has one, whatever stood there.
-#[unsafe(no_mangle)]
-pub extern "C" fn imjarlet_reset(c: &mut Controller) -> u32
+pub fn imjarlet_reset(c: &mut Controller) -> u32
     ensures { (result ≡ 0) × (c.new ≡ fresh) }
 {
     *c = Controller::fresh();
@@ -72,8 +71,7 @@ fn step(
 
 // Takes bytes until the input ends or one packet is complete. The controller's arrays are changed
 // where they stand, and its settings are stored only where a packet was complete.
-#[unsafe(no_mangle)]
-pub extern "C" fn imjarlet_receive(
+pub fn imjarlet_receive(
     c: &mut Controller,
     input: &[u8],
     out: &mut [u8],

@@ -65,8 +65,7 @@ fn judge(report: &[u8]) -> Judged
 }
 
 // Whether the settings that the report ships are those of its best trial.
-#[unsafe(no_mangle)]
-pub extern "C" fn imjarlet_check_report(report: &[u8], verdict: &mut Verdict) -> u32
+pub fn imjarlet_check_report(report: &[u8], verdict: &mut Verdict) -> u32
     ensures { Judges report.now result verdict.new }
 {
     let j = judge(report);
