@@ -2,7 +2,7 @@
 //! Rust over the static library libimjarlet.a.
 //!
 //! A program takes this file in by `#[path = "include/imjarlet.rs"] mod imjarlet;` and links by
-//! `-l static=imjarlet`, with `-L crates/imjarlet/out` on the machine itself (`scripts/built imjarlet` makes
+//! `-l static=imjarlet`, with `-L target/staticlib` on the machine itself (`scripts/built imjarlet` makes
 //! the library there) or `-L target/firmware/TARGET` for firmware (`scripts/firmware TARGET` makes it).
 //! It needs nothing but `core`. Bytes are hexadecimal in the comments (01 04); numbers are decimal.
 //!
