@@ -22,6 +22,12 @@ PROVED, REFUSED, UNFIT = "proved", "refused", "unfit"
 
 # what antt says where a text names something that is not there, or is no term at all
 UNREAD = r"is not in scope|has no field|is no name|operand is missing|expected the end|cannot continue"
+# what it says of a proof that names what is gone, as a goal or a step of the code is that has another name, and of
+# what it did not check since it cites a proof that fell
+GONE = r"has no field|is not in scope|has no `"
+FELL = r"was not admitted|was rejected"
+# what rt says of an edit that the prover refuses
+AS_IT_MUST = "refused, as it must be"
 
 
 def jobs():
@@ -49,6 +55,68 @@ def unread(log, changed):
         if (file in changed or file.startswith(("src/", "specs/"))) and (not name or re.search(UNREAD, re.sub(r"`[^`]*`", "", said))):
             return error.group()
     return None
+
+
+def edited(name, edit):
+    """The texts of the files of a crate that an edit changes."""
+    texts, path, old = {}, None, None
+    for line in edit.read_text().splitlines():
+        if line.startswith("file: "):
+            path = line[len("file: "):].strip()
+        elif line.startswith("old: "):
+            old = line[len("old: "):]
+        elif line.startswith("new:"):
+            text = texts.get(path) or (ROOT / "crates" / name / path).read_text()
+            if text.count(old) != 1:
+                raise ValueError(f"`{old}` is {text.count(old)} times in {path}")
+            texts[path] = text.replace(old, line[len("new:"):].removeprefix(" "))
+    if not texts:
+        raise ValueError("it changes nothing")
+    return texts
+
+
+def own_proofs(name, texts, path, line):
+    """What the names of the proof files begin with that are of the one function a place in src/ lies in. A function
+    begins with its attributes."""
+    lines = (texts.get(path) or (ROOT / "crates" / name / path).read_text()).splitlines()
+    below = lines[line - 1].lstrip().startswith("#[")
+    for text in lines[line - 1:] if below else reversed(lines[:line]):
+        function = re.match(r"(?!\s*//).*?\bfn (\w+)", text)
+        if function:
+            module = path.removeprefix("src/").removesuffix(".rt")
+            return "proofs/" + ("" if module in ("lib", "main") else f"{module}/") + rf"(?:[A-Z]\w*/)?{function[1]}(?:/|\.antt$)"
+    raise ValueError(f"there is no function at {path}:{line}")
+
+
+def in_doubt(name, edit, word):
+    """Whether what rt tells of a refused edit, the first error or else the first note, leaves open that the proof only
+    became unfit. A goal that is noted on a function without proof files of its own can have lost none."""
+    if re.match(rf"{AS_IT_MUST}: \S+: error: \d+ declarations? that depends? on ", word):
+        return True
+    if not word.startswith(f"{AS_IT_MUST}: note: "):
+        return False
+    place = re.match(rf"{AS_IT_MUST}: note: (?:\./)?(src/\S+?):(\d+):\d+: it is not proved", word)
+    if not place:
+        return True
+    own = own_proofs(name, edited(name, edit), place[1], int(place[2]))
+    folder = ROOT / "crates" / name
+    return any(re.match(own, str(path.relative_to(folder))) for path in folder.glob("proofs/**/*.antt"))
+
+
+def lost(name, texts, log):
+    """What the proofs name that is gone, where a refusal rests on nothing else: goals and steps are named after the
+    code, so an answer can fall whatever the changed program means, and a goal that has no answer then is noted. No
+    error but of such names stands in the log, and each goal noted is of a function whose own proof files lost one."""
+    errors = re.findall(r"^(?:\./)?(\S+?):\d+:\d+: error: (.*)$", log, re.M)
+    gone = [said for file, said in errors if file.startswith("proofs/") and re.search(GONE, said)]
+    if not gone or not all(re.search(f"{GONE}|{FELL}", said) for _, said in errors):
+        return None
+    for path, line in re.findall(r"^note: (?:\./)?(src/\S+?):(\d+):\d+: it is not proved", log, re.M):
+        own = own_proofs(name, texts, path, int(line))
+        if not any(re.match(own, file) for file, _ in errors):
+            return None
+    names = [re.search(r"(?:has no (?:field )?(`[^`]*`))|(`[^`]*`) is not in scope", said) for said in gone]
+    return ", ".join(dict.fromkeys((found[1] or found[2]) if found else said[:160] for found, said in zip(names, gone)))
 
 
 def stamps(folder):
@@ -97,7 +165,6 @@ class Crate:
         if verdict != PROVED:
             raise SystemExit(f"{name} as it stands is not proved over what its check keeps:\n{first_error(log)}")
         self.kept = self.control / "crates" / name / "out" / "incremental"
-        self.stamps = stamps(self.kept)
         self.free = None
 
     def _check(self, copy, *flags, changed=()):
@@ -109,6 +176,7 @@ class Crate:
         return (REFUSED if reached else UNFIT), log
 
     def _copies(self):
+        self.stamps = stamps(self.kept)
         self.free = queue.Queue()
         for job in range(JOBS):
             copy = self.work / str(job)
@@ -135,13 +203,25 @@ class Crate:
             self.free.put(copy)
 
     def each(self, work, items):
-        """The work on each item, some at a time, its results in order."""
+        """Each item with the work's result on it, some at a time, in order. Only who takes all of them learns that the
+        kept work stayed as it was."""
         if self.free is None:
             self._copies()
         with concurrent.futures.ThreadPoolExecutor(JOBS) as pool:
-            yield from pool.map(work, items)
+            yield from zip(items, pool.map(work, items))
         if stamps(self.kept) != self.stamps:
             raise SystemExit(f"{self.name}: a check changed the work that the control kept, so what was said over it shows nothing")
+
+    def shows_nothing(self, edit):
+        """Why a refused edit that is in doubt shows nothing, and its log; nothing where a promise refuses it."""
+        texts = edited(self.name, edit)
+        verdict, log = self.check(texts)
+        if verdict == PROVED:
+            return "rt refuses it, and over the kept work the crate is proved with it", log
+        if verdict != REFUSED:
+            return f"it did not reach the prover: {first_error(log)}", log
+        names = lost(self.name, texts, log)
+        return names and f"it only makes the proof unfit: gone is {names}; change a value and keep the names: {first_error(log)[:200]}", log
 
     def close(self):
         shutil.rmtree(self.work, ignore_errors=True)
