@@ -1,7 +1,7 @@
 //! The DLPC200 on its SPI port, as safe Rust over the static library libdlpc200.a.
 //!
 //! A program takes this file in by `#[path = "include/dlpc200.rs"] mod dlpc200;` and links by
-//! `-l static=dlpc200`, with `-L crates/dlpc200/out` on the machine itself (`scripts/built dlpc200` makes
+//! `-l static=dlpc200`, with `-L target/staticlib` on the machine itself (`scripts/built dlpc200` makes
 //! the library there) or `-L target/firmware/TARGET` for firmware (`scripts/firmware TARGET dlpc200` makes
 //! it). It needs nothing but `core`. Bytes and command IDs are hexadecimal in the comments (02 AA, 0015);
 //! numbers are decimal.
