@@ -52,7 +52,8 @@ def unread(log, changed):
     such a text is false is said in other words."""
     for error in re.finditer(r"^(?:\./)?(\S+?):\d+:\d+: error: (?:(`[^`]*`): )?(.*)$", log, re.M):
         file, name, said = error.groups()
-        if (file in changed or file.startswith(("src/", "specs/"))) and (not name or re.search(UNREAD, re.sub(r"`[^`]*`", "", said))):
+        unnamed = not name and not re.search(FELL, said)
+        if (file in changed or file.startswith(("src/", "specs/"))) and (unnamed or re.search(UNREAD, re.sub(r"`[^`]*`", "", said))):
             return error.group()
     return None
 
