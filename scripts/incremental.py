@@ -28,6 +28,7 @@ GONE = r"has no field|is not in scope|has no `"
 FELL = r"was not admitted|was rejected"
 # what rt says of an edit that the prover refuses
 AS_IT_MUST = "refused, as it must be"
+UNREADABLE = "BAD EDIT: the prover cannot read the edited text, so no contract was tried"
 
 
 def jobs():
@@ -91,8 +92,9 @@ def own_proofs(name, texts, path, line):
 
 def in_doubt(name, edit, word):
     """Whether what rt tells of a refused edit, the first error or else the first note, leaves open that the proof only
-    became unfit. A goal that is noted on a function without proof files of its own can have lost none."""
-    if re.match(rf"{AS_IT_MUST}: \S+: error: \d+ declarations? that depends? on ", word):
+    became unfit. A goal that is noted on a function without proof files of its own can have lost none. What fell with
+    a theorem in a file that the edit changes rt takes for a text that cannot be read."""
+    if re.match(rf"({AS_IT_MUST}|{UNREADABLE}): \S+: error: \d+ declarations? that depends? on ", word):
         return True
     if not word.startswith(f"{AS_IT_MUST}: note: "):
         return False
