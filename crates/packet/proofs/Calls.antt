@@ -1,13 +1,13 @@
 -- Cutting a stream anywhere, into any number of calls, changes nothing: for every call that keeps the laws of `Streaming`, and with an output of its own for each
 -- call, where what a call shows does not depend on the output lent.
 use Rattle.std.proofs.Common.{◌≡◌, ℕ, zero, suc, ◌+◌, ◌<◌, ◌≤◌, List, [], ◌∷◌, ◌++◌, length, drop, sym, refl, ap, ◌∙◌, subst, arith, length-append, length-drop}
-use mathlib.Core.Option.{Option, none, some}
+use Rattle.std.specs.Prelude.{Option, None, Some}
 use lib.Seq.{drop-append-add, drop-append-le}
 use Rattle.packet.specs.Calls.{Call, Served, and_then, calls_on, served_one, served, joined, Counted, lent, Sending, sent}
 
-pub option_cases : {E P : Type 0} (o : Option E) → (o ≡ none → P) → ((e : E) → o ≡ some e → P) → P
-option_cases none f g = f refl
-option_cases (some e) f g = g e refl
+pub option_cases : {E P : Type 0} (o : Option E) → (o ≡ None → P) → ((e : E) → o ≡ Some e → P) → P
+option_cases None f g = f refl
+option_cases (Some e) f g = g e refl
 
 -- the call with n bytes taken before
 abbrev pub shifted : {S E : Type 0} → ℕ → Call S E → Call S E
@@ -16,22 +16,22 @@ shifted n t = record { taken = n + t.taken; gives = t.gives; state = t.state }
 -- what is asked of a call, on states of which I holds
 pub record Streaming {S E : Type 0} (call : S → List ℕ → Call S E) (I : S → Type 0) : Type 0 where
   pub keeps : (s : S) (b : List ℕ) → I s → I (call s b).state
-  pub empty : (s : S) → I s → call s [] ≡ record { taken = 0; gives = none; state = s }
-  pub cut : (s : S) (a b : List ℕ) → I s → (call s a).gives ≡ none → call s (a ++ b) ≡ shifted (length a) (call (call s a).state b)
-  pub behind : (s : S) (a b : List ℕ) (e : E) → I s → (call s a).gives ≡ some e → call s (a ++ b) ≡ call s a
-  pub least : (s : S) (a : List ℕ) (e : E) → I s → (call s a).gives ≡ some e → 1 ≤ (call s a).taken
-  pub most : (s : S) (a : List ℕ) (e : E) → I s → (call s a).gives ≡ some e → (call s a).taken ≤ length a
+  pub empty : (s : S) → I s → call s [] ≡ record { taken = 0; gives = None; state = s }
+  pub cut : (s : S) (a b : List ℕ) → I s → (call s a).gives ≡ None → call s (a ++ b) ≡ shifted (length a) (call (call s a).state b)
+  pub behind : (s : S) (a b : List ℕ) (e : E) → I s → (call s a).gives ≡ Some e → call s (a ++ b) ≡ call s a
+  pub least : (s : S) (a : List ℕ) (e : E) → I s → (call s a).gives ≡ Some e → 1 ≤ (call s a).taken
+  pub most : (s : S) (a : List ℕ) (e : E) → I s → (call s a).gives ≡ Some e → (call s a).taken ≤ length a
 
 module _ {S E : Type 0} (call : S → List ℕ → Call S E) (I : S → Type 0) (laws : Streaming call I) where
   -- what one call makes of what follows it
   abbrev first : Call S E → Served S E → Served S E
   first t r = and_then t.gives t.state r
 
-  shorter : (s : S) (b : List ℕ) (e : E) (n : ℕ) → I s → (call s b).gives ≡ some e → length b ≤ suc n → length (drop (call s b).taken b) ≤ n
+  shorter : (s : S) (b : List ℕ) (e : E) (n : ℕ) → I s → (call s b).gives ≡ Some e → length b ≤ suc n → length (drop (call s b).taken b) ≤ n
   shorter s b e n i g l = simp length-drop (omega (arith, laws.least s b e i g))
 
   -- what follows a call that completes no packet does not matter
-  ends : (t : Call S E) (r q : Served S E) → t.gives ≡ none → first t r ≡ first t q
+  ends : (t : Call S E) (r q : Served S E) → t.gives ≡ None → first t r ≡ first t q
   ends t r q g = ap (λ o. and_then o t.state r) g ∙ sym (ap (λ o. and_then o t.state q) g)
 
   no_bytes : (n : ℕ) (s : S) → I s → calls_on call n s [] ≡ record { given = []; state = s }
@@ -63,7 +63,7 @@ module _ {S E : Type 0} (call : S → List ℕ → Call S E) (I : S → Type 0) 
       ≡ followed (calls_on call n s a) (calls_on call (suc (length b)) (calls_on call n s a).state b)
 
   -- a first call that completes no packet: what comes behind goes on where it stopped
-  pub goes_on : (s : S) (a b : List ℕ) → I s → (call s a).gives ≡ none → served_one call s (a ++ b) ≡ served_one call (call s a).state b
+  pub goes_on : (s : S) (a b : List ℕ) → I s → (call s a).gives ≡ None → served_one call s (a ++ b) ≡ served_one call (call s a).state b
   unfolding served_one calls_on
   goes_on s a b i g =
       let s' : S = (call s a).state in
@@ -75,7 +75,7 @@ module _ {S E : Type 0} (call : S → List ℕ → Call S E) (I : S → Type 0) 
       ∙ ap (first t) more
       ∙ same_calls (suc (length (a ++ b))) (suc (length b)) s' b i' (omega (arith, length-append a b)) (omega arith)
 
-  join_none : (n : ℕ) (s : S) (a b : List ℕ) → I s → (call s a).gives ≡ none → joins (suc n) s a b
+  join_none : (n : ℕ) (s : S) (a b : List ℕ) → I s → (call s a).gives ≡ None → joins (suc n) s a b
   unfolding served_one calls_on joins
   join_none n s a b i g =
       let one : calls_on call (suc n) s a ≡ record { given = []; state = (call s a).state } =
@@ -103,7 +103,7 @@ module _ {S E : Type 0} (call : S → List ℕ → Call S E) (I : S → Type 0) 
       ap (λ o. and_then o s' (calls_on call n s' (drop k a))) g in
       ap (λ (c : Call S E). first c (calls_on call (length (a ++ b)) c.state (drop c.taken (a ++ b)))) (laws.behind s a b e i g)
       ∙ ap (λ o. and_then o s' (calls_on call (length (a ++ b)) s' (drop k (a ++ b)))) g
-      ∙ ap (λ (r : Served S E). and_then (some e) s' r) (rest ∙ join_calls n s' (drop k a) b i' (omega arith))
+      ∙ ap (λ (r : Served S E). and_then (Some e) s' r) (rest ∙ join_calls n s' (drop k a) b i' (omega arith))
       ∙ sym (ap (λ (r : Served S E). followed r (calls_on call (suc (length b)) r.state b)) one))
 
   -- what each call keeps, some calls keep
@@ -115,8 +115,8 @@ module _ {S E : Type 0} (call : S → List ℕ → Call S E) (I : S → Type 0) 
       (keeps_calls n (call s b).state (drop (call s b).taken b) (laws.keeps s b i))
     where
       go : (o : Option E) (s : S) (r : Served S E) → I s → I r.state → I (and_then o s r).state
-      go none s r i j = i
-      go (some e) s r i j = j
+      go None s r i j = i
+      go (Some e) s r i j = j
 
   -- the pieces one after the other are the joined bytes at once
   pub in_pieces : (s : S) (bs : List (List ℕ)) → I s → served call s bs ≡ served_one call s (joined bs)
@@ -137,8 +137,8 @@ module _ {S E : Type 0} (call : List ℕ → S → List ℕ → Call S E) (I : S
   uncounted r = record { given = r.given; state = r.state.state }
 
   uncounted_then : (o : Option E) (c : Counted S) (r : Served (Counted S) E) → uncounted (and_then o c r) ≡ and_then o c.state (uncounted r)
-  uncounted_then none c r = refl
-  uncounted_then (some e) c r = refl
+  uncounted_then None c r = refl
+  uncounted_then (Some e) c r = refl
 
   module _ (outs : ℕ → List ℕ) (room : (i : ℕ) → shortest ≤ length (outs i)) (out : List ℕ) (l : shortest ≤ length out) where
     lent_keeps : (c : Counted S) (b : List ℕ) → I c.state → I (lent call outs c b).state.state

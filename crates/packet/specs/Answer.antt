@@ -1,19 +1,20 @@
 -- What a receive call answers, in the numbers of document 01: a refusal's number; "waiting" and the bytes taken; "answered", the bytes taken and the response's length.
-use Rattle.std.specs.Prelude.{◌≡◌, ℕ, ◌<◌, ◌≤◌, cond, ◌⊎◌, ◌↔◌, List, length, take, ◌==◌}
-use Rattle.std.proofs.Math.Option.{Option, none, some}
-use Rattle.packet.specs.declared.answer.Answer.{Answer}
-use Rattle.packet.specs.declared.answer.Answer.TheVariants.{Waiting, Answered, ShortOutput, OutOfRule}
+use Rattle.std.specs.Prelude.{◌≡◌, ℕ, ◌<◌, ◌≤◌, cond, ◌⊎◌, ◌↔◌, List, length, take, ◌==◌, Option, None, Some, Result, Ok, Err}
+use Rattle.packet.specs.declared.answer.Progress.{Progress}
+use Rattle.packet.specs.declared.answer.Progress.TheVariants.{Waiting, Answered}
+use Rattle.packet.specs.declared.answer.Refusal.{Refusal}
+use Rattle.packet.specs.declared.answer.Refusal.TheVariants.{ShortOutput, OutOfRule}
 
 pub data Outcome : Type 0 where
   Refuses : ℕ → Outcome
   Waits : ℕ → Outcome
   Answers : ℕ → ℕ → Outcome
 
-abbrev pub outcome_of : Answer → Outcome
-outcome_of ShortOutput = Refuses 1
-outcome_of OutOfRule = Refuses 3
-outcome_of (Waiting n) = Waits n
-outcome_of (Answered n m) = Answers n m
+abbrev pub outcome_of : Result Progress Refusal → Outcome
+outcome_of (Err ShortOutput) = Refuses 1
+outcome_of (Err OutOfRule) = Refuses 3
+outcome_of (Ok (Waiting n)) = Waits n
+outcome_of (Ok (Answered n m)) = Answers n m
 
 -- What an answer shows of a call: how many bytes it took, and the response at the output's start, where there is one.
 
@@ -23,9 +24,9 @@ taken_of (Waits n) = n
 taken_of (Answers n m) = n
 
 abbrev pub response_of : Outcome → List ℕ → Option (List ℕ)
-response_of (Refuses n) out = none
-response_of (Waits n) out = none
-response_of (Answers n m) out = some (take m out)
+response_of (Refuses n) out = None
+response_of (Waits n) out = None
+response_of (Answers n m) out = Some (take m out)
 
 -- An answer as three numbers, for callers that know no enum: the refusal's number, the bytes taken, the response's length.
 

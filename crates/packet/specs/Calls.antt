@@ -1,6 +1,5 @@
 -- A stream handed over in pieces, call after call, "however the byte stream was cut": for any state, and whatever a complete packet gives.
-use Rattle.std.specs.Prelude.{◌≡◌, ℕ, zero, suc, ◌+◌, ◌≤◌, List, [], ◌∷◌, ◌++◌, length, drop}
-use Rattle.std.proofs.Math.Option.{Option, none, some}
+use Rattle.std.specs.Prelude.{◌≡◌, ℕ, zero, suc, ◌+◌, ◌≤◌, List, [], ◌∷◌, ◌++◌, length, drop, Option, None, Some}
 
 -- one call: how many bytes of its input it took, what the packet gave that it completed, and the state afterwards
 pub record Call (S E : Type 0) : Type 0 where
@@ -15,8 +14,8 @@ pub record Served (S E : Type 0) : Type 0 where
 
 -- a call and those that follow it on what it left of its input; a call that completes no packet has left nothing
 abbrev pub and_then : {S E : Type 0} → Option E → S → Served S E → Served S E
-and_then none s r = record { given = []; state = s }
-and_then (some e) s r = record { given = e ∷ r.given; state = r.state }
+and_then None s r = record { given = []; state = s }
+and_then (Some e) s r = record { given = e ∷ r.given; state = r.state }
 
 -- at most n calls on one piece
 unfoldable pub calls_on : {S E : Type 0} → (S → List ℕ → Call S E) → ℕ → S → List ℕ → Served S E

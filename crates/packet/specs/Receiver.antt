@@ -1,6 +1,6 @@
 -- The receiver: "One receive call takes bytes until the input ends or one packet is complete."
 -- A receiver of any field values is answered. One that has all bytes of its packet already takes the next byte for the checksum.
-use Rattle.std.specs.Prelude.{ℕ, ◌+◌, ◌-◌, ◌%◌, max, Bool, true, false, cond, List, [], ◌∷◌, length, take, drop, ◌==◌, nat_le, nat_lt, slice_index}
+use Rattle.std.specs.Prelude.{ℕ, ◌+◌, ◌-◌, ◌%◌, max, Bool, true, false, cond, List, [], ◌∷◌, length, take, drop, ◌==◌, nat_le, nat_lt, slice_index, is_some, unwrap_or}
 use Rattle.std.proofs.lemmas.List.Edits.{sets}
 use Rattle.packet.specs.Packet.{payload_length, sum}
 use Rattle.packet.specs.declared.receiver.Taken.{Taken}
@@ -78,4 +78,4 @@ receiver_of header running received hold = record { header = header; running = r
 
 abbrev pub received_of : Taken → List ℕ → List ℕ → Received
 received_of t header hold =
-    record { taken = t.taken; complete = t.complete; right = t.right; receiver = receiver_of header t.sum t.received hold }
+    record { taken = t.taken; complete = is_some t.complete; right = unwrap_or t.complete false; receiver = receiver_of header t.sum t.received hold }

@@ -1,16 +1,14 @@
 -- A packet written to a lent buffer: "at the output's start, the rest untouched". The answer, and each byte of the buffer.
-use Rattle.std.specs.Prelude.{ℕ, ◌+◌, Bool, cond, ◌&&◌, List, ◌++◌, length, drop, nat_le}
+use Rattle.std.specs.Prelude.{ℕ, ◌+◌, Bool, cond, ◌&&◌, List, ◌++◌, length, drop, nat_le, Option, None, Some}
 use Rattle.packet.specs.Packet.{packet_of}
-use Rattle.packet.specs.declared.writer.Written.{Written}
-use Rattle.packet.specs.declared.writer.Written.TheVariants.{Length, NoRoom}
 
 -- "A packet is 7 to 65,542 bytes": the data go into one, and the packet into a buffer of so many bytes
 unfoldable pub fits : ℕ → List ℕ → Bool
 fits room d = nat_le (length d) 65535 && nat_le (length d + 7) room
 
--- how many bytes are written
-abbrev pub answer_to : ℕ → List ℕ → Written
-answer_to room d = cond (fits room d) (Length (length d + 7)) NoRoom
+-- how many bytes are written, where the packet fits
+abbrev pub answer_to : ℕ → List ℕ → Option ℕ
+answer_to room d = cond (fits room d) (Some (length d + 7)) None
 
 -- a buffer with these bytes at its start, the rest untouched
 unfoldable pub written : List ℕ → List ℕ → List ℕ

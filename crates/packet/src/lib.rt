@@ -22,7 +22,7 @@ mod writer;
 // What a receive call answers.
 mod answer;
 
-pub use answer::{Answer, told};
+pub use answer::{Progress, Refusal, told};
 pub use bytes::store;
 pub use number::word;
 pub use packet::{
@@ -30,5 +30,5 @@ pub use packet::{
     WHOLE, WRITE_RESPONSE,
 };
 pub use receiver::{CHECKSUM_FROM, Taken, packet_in_rule, receive};
-pub use stream::{Next, next_packet};
-pub use writer::{Written, write_packet};
+pub use stream::{WholePacket, next_packet};
+pub use writer::{Head, write_packet};

@@ -5,5 +5,5 @@ ghost use Rattle.std.specs.Prelude.{◌≡◌, ◌+◌, ◌*◌, ◌<◌};
 pub fn word(lo: u8, hi: u8) -> usize
     ensures { (result ≡ lo + 256 * hi) × (result < 65536) }
 {
-    (lo as usize) + 256 * (hi as usize)
+    usize::from(u16::from_le_bytes([lo, hi]))
 }

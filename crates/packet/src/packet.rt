@@ -9,6 +9,9 @@ pub const FRAME: usize = HEADER + 1;
 // The longest payload that the length field can tell.
 pub(crate) const PAYLOAD_MAX: usize = 65535;
 
+// Types and flags are numbers and no enums: a packet comes with any byte there, and the faults compare it
+// with these.
+
 // Types of the packets that the head sends.
 pub const ERROR: u8 = 0x01;
 

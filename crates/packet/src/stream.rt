@@ -7,18 +7,13 @@ use crate::bytes::sum_with;
 use crate::number::word;
 use crate::packet::FRAME;
 
-// What stands at a place of a slice.
+// A whole packet that stands at a place of a slice.
 #[derive(Clone, Copy)]
-pub enum Next {
-    // A whole packet.
-    Packet {
-        // How many bytes it has.
-        size: usize,
-        // Whether its checksum is right.
-        right: bool,
-    },
-    // Too few bytes for one.
-    Nothing,
+pub struct WholePacket {
+    // How many bytes it has.
+    pub size: usize,
+    // Whether its checksum is right.
+    pub right: bool,
 }
 
 // The last byte is the checksum of those before it.
@@ -30,23 +25,23 @@ fn right_sum(p: &[u8]) -> bool
     p[n] == sum_with(0, &p[..n])
 }
 
-// The packet that starts at `at`; past the end of b there is none.
-pub fn next_packet(b: &[u8], at: usize) -> Next
+// The packet that starts at `at`; none where too few bytes are left for one.
+pub fn next_packet(b: &[u8], at: usize) -> Option<WholePacket>
     ensures { result ≡ next_in (drop at b.now) }
 {
     if b.len() < at {
-        return Next::Nothing;
+        return None;
     }
     let left = b.len() - at;
     if left < FRAME {
-        return Next::Nothing;
+        return None;
     }
     let size = FRAME + word(b[at + 4], b[at + 5]);
     if left < size {
-        return Next::Nothing;
+        return None;
     }
-    Next::Packet {
+    Some(WholePacket {
         size,
         right: right_sum(&b[at..at + size]),
-    }
+    })
 }

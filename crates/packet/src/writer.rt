@@ -7,25 +7,27 @@ ghost use Rattle.packet.specs.Writer.{answer_to, output_after};
 use crate::bytes::{store, sum_with};
 use crate::packet::{FRAME, HEADER, PAYLOAD_MAX};
 
-// How many bytes were written; or that the packet does not go into the buffer, or the data into a
-// packet.
+// What a packet tells before its payload's length: its type, its command's bytes and its flags.
 #[derive(Clone, Copy)]
-pub enum Written {
-    Length(usize),
-    NoRoom,
+pub struct Head {
+    pub kind: u8,
+    pub cmd1: u8,
+    pub cmd2: u8,
+    pub flags: u8,
 }
 
 // The header, the payload having n bytes.
-fn put_header(out: &mut [u8], kind: u8, cmd1: u8, cmd2: u8, flags: u8, n: usize)
+fn put_header(out: &mut [u8], h: Head, n: usize)
     requires { 6 ≤ length out.old }
-    ensures { out.new ≡ sets out.old 0 (header kind cmd1 cmd2 flags n) }
+    ensures { out.new ≡ sets out.old 0 (header h.kind h.cmd1 h.cmd2 h.flags n) }
 {
-    out[0] = kind;
-    out[1] = cmd1;
-    out[2] = cmd2;
-    out[3] = flags;
-    out[4] = (n % 256) as u8;
-    out[5] = (n / 256 % 256) as u8;
+    let [low, high, ..] = n.to_le_bytes();
+    out[0] = h.kind;
+    out[1] = h.cmd1;
+    out[2] = h.cmd2;
+    out[3] = h.flags;
+    out[4] = low;
+    out[5] = high;
 }
 
 // Puts the checksum of the first n bytes after them.
@@ -37,27 +39,21 @@ fn seal(out: &mut [u8], n: usize)
     out[n] = sum;
 }
 
-// Writes the packet of these fields and data to the start of out. The rest of out stays; all of it
-// where there is no room.
-pub fn write_packet(
-    out: &mut [u8],
-    kind: u8,
-    cmd1: u8,
-    cmd2: u8,
-    flags: u8,
-    payload: &[u8],
-) -> Written
-    ensures { (result ≡ answer_to (length out.old) payload.now) × (out.new ≡ output_after kind cmd1 cmd2 flags payload.now out.old) }
+// Writes the packet of this head and payload to the start of out, and says how many bytes it has. The
+// rest of out stays; all of it where the packet does not go into out, or the payload into a packet.
+pub fn write_packet(out: &mut [u8], h: Head, payload: &[u8]) -> Option<usize>
+    ensures { (result ≡ answer_to (length out.old) payload.now)
+        × (out.new ≡ output_after h.kind h.cmd1 h.cmd2 h.flags payload.now out.old) }
 {
     let n = payload.len();
     if PAYLOAD_MAX < n {
-        return Written::NoRoom;
+        return None;
     }
     if out.len() < n + FRAME {
-        return Written::NoRoom;
+        return None;
     }
-    put_header(out, kind, cmd1, cmd2, flags, n);
+    put_header(out, h, n);
     store(out, HEADER, payload);
     seal(out, n + HEADER);
-    Written::Length(n + FRAME)
+    Some(n + FRAME)
 }

@@ -1,5 +1,6 @@
 -- Runs of stores, and sums of bytes.
-use Rattle.std.proofs.Common.{◌≡◌, ℕ, suc, ◌+◌, ◌%◌, ◌<◌, ◌≤◌, List, [], ◌∷◌, ◌++◌, length, get_or, take, drop, set, sym, refl, ap, ◌∙◌, append-nil, add-zero, zero-add, add-one, arith, take-append-drop, drop_of_length-le, length-take-le, drop-cons, get_or-take}
+use Rattle.std.proofs.Common.{◌≡◌, ℕ, suc, ◌+◌, ◌-◌, ◌%◌, ◌<◌, ◌≤◌, min, List, [], ◌∷◌, ◌++◌, length, get_or, take, drop, set, sym, refl, ap, ◌∙◌, append_assoc, append-nil, add-zero, zero-add, add-one, arith, take-append-drop, drop_of_length-le, length-take-le, drop-cons, get_or-take}
+use Rattle.std.specs.List.{fold}
 use lib.ListN.{get_or-append}
 use lib.Seq.{sets, sets-eq, length-sets, set_out}
 use Rattle.packet.specs.Packet.{sum}
@@ -16,6 +17,18 @@ sets_append (x ∷ xs) ys l i =
 pub sets_past : (xs l : List ℕ) (i : ℕ) → length l ≤ i → sets l i xs ≡ l
 sets_past [] l i h = refl
 sets_past (x ∷ xs) l i h = rw (set_out l i x h) (sets_past xs l (suc i) (omega arith))
+
+-- a run of which the first n elements fill the list to its end, or are all, stores no others
+pub sets_clipped : (xs l : List ℕ) (i n : ℕ) → i ≤ length l → n ≡ min (length xs) (length l - i) → sets l i xs ≡ take i l ++ (take n xs ++ drop (i + n) l)
+sets_clipped xs l i n h e =
+    let n' : length (take n xs) ≡ n = length-take-le n xs (omega (arith, e)) in
+    let parts : sets (sets l i (take n xs)) (i + length (take n xs)) (drop n xs) ≡ sets l i xs =
+    sets_append (take n xs) (drop n xs) l i ∙ ap (sets l i) (take-append-drop n xs) in
+    let past : sets (sets l i (take n xs)) (i + length (take n xs)) (drop n xs) ≡ sets l i (take n xs) =
+    lt_cases n (length xs)
+    (λ c. sets_past (drop n xs) (sets l i (take n xs)) (i + length (take n xs)) (omega (arith, e, n', length-sets l i (take n xs))))
+    (λ c. ap (sets (sets l i (take n xs)) (i + length (take n xs))) (drop_of_length-le xs {i = n} c)) in
+    sym parts ∙ past ∙ rw n' at (sets-eq (take n xs) l i (omega (arith, e, n'))) ∙ append_assoc (take i l) (take n xs) (drop (i + n) l)
 
 -- a run from the start that covers the whole list leaves its own first elements
 pub sets_whole : (xs l : List ℕ) → length l ≤ length xs → sets l 0 xs ≡ take (length l) xs
@@ -40,11 +53,11 @@ sets_more l xs at i h =
     let e : suc (at + i) ≡ at + suc i = omega arith in
     rw (drop-cons xs i 0 h, add-one i, ← e)
 
--- one byte of a running sum
-pub sum_more : (xs : List ℕ) (s i : ℕ) → i < length xs
-    → ((s + get_or xs i 0) % 256 + sum (drop (i + 1) xs)) % 256 ≡ (s + sum (drop i xs)) % 256
+-- a running sum, byte by byte in a byte
+pub fold_sum : (n : ℕ) (b : List ℕ) → n < 256 → fold (λ s x. (s + x) % 256) n b ≡ (n + sum b) % 256
 unfolding sum
-sum_more xs s i h = rw (drop-cons xs i 0 h, add-one i) (omega arith)
+fold_sum n [] h = omega arith
+fold_sum n (x ∷ b) h = fold_sum ((n + x) % 256) b (omega arith) ∙ omega arith
 
 -- what a buffer holds after bytes were stored at its start
 pub sets_front : (xs l : List ℕ) → length xs ≤ length l → sets l 0 xs ≡ xs ++ drop (length xs) l

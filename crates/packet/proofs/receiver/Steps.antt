@@ -1,6 +1,7 @@
 -- The steps of the receive call, put together: the payload kept, and the two ends.
-use Rattle.std.proofs.Common.{◌≡◌, ℕ, ◌+◌, ◌-◌, ◌<◌, ◌≤◌, min, true, false, eqb, List, length, get_or, take, drop, sym, ap, ◌∙◌, arith, length-drop, take-append-drop, drop_of_length-le, length-take-le, take_all}
+use Rattle.std.proofs.Common.{◌≡◌, ℕ, ◌+◌, ◌-◌, ◌<◌, ◌≤◌, min, eqb, List, length, get_or, take, drop, sym, ap, ◌∙◌, arith, length-drop, take-append-drop, drop_of_length-le, length-take-le, take_all}
 use lib.Seq.{sets}
+use Rattle.std.specs.Prelude.{None, Some}
 use Rattle.packet.specs.Packet.{payload_length}
 use Rattle.packet.specs.Receiver.{Receiver, running_with, with, missing, waiting, completed, receiving, received_of}
 use Rattle.packet.proofs.Cases.{lt_cases}
@@ -33,7 +34,7 @@ module _
   missing_is = rw (← eh) (omega (arith, em))
 
   pub receive_waits : length b ≤ m
-      → received_of (record { taken = n; complete = false; right = false; sum = s; received = r.received + n }) h d ≡ receiving k r b
+      → received_of (record { taken = n; complete = None; sum = s; received = r.received + n }) h d ≡ receiving k r b
   unfolding waiting with
   receive_waits l =
       let e : n ≡ length b = omega (arith, en) in
@@ -49,7 +50,7 @@ module _
       ∙ header_stays r (take m b) (drop m b) six (omega (arith, em, length-take-le m b (omega arith))))
 
   pub receive_completes : m < length b
-      → received_of (record { taken = m + 1; complete = true; right = eqb (get_or b m 0) s; sum = 0; received = 0 }) h d ≡ receiving k r b
+      → received_of (record { taken = m + 1; complete = Some (eqb (get_or b m 0) s); sum = 0; received = 0 }) h d ≡ receiving k r b
   unfolding completed with
   receive_completes l =
       let e : n ≡ m = omega (arith, en) in

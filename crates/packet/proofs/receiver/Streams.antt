@@ -1,6 +1,6 @@
 -- The receiver over whole streams: however a stream is cut into calls, its packets are those of the joined bytes.
 use Rattle.std.proofs.Common.{◌≡◌, ℕ, suc, ◌+◌, ◌-◌, ◌<◌, ◌≤◌, Bool, false, cond, List, [], ◌∷◌, ◌++◌, length, take, drop, sym, refl, ap, ◌∙◌, subst, arith, length-append, drop_at}
-use mathlib.Core.Option.{none, some}
+use Rattle.std.specs.Prelude.{None, Some}
 use Rattle.packet.specs.Stream.{has_packet, packets, rest}
 use Rattle.packet.specs.Receiver.{Receiver, Received, with, missing, waiting, completed, receiving}
 use Rattle.packet.specs.Calls.{Call, Served, and_then, calls_on, served_one, served, joined}
@@ -18,7 +18,7 @@ abbrev pub framed : Received → Call Receiver Framed
 framed t =
     record {
       taken = t.taken;
-      gives = cond t.complete (some (record { right = t.right; receiver = t.receiver })) none;
+      gives = cond t.complete (Some (record { right = t.right; receiver = t.receiver })) None;
       state = t.receiver;
     }
 
@@ -28,14 +28,14 @@ receives k r b = framed (receiving k r b)
 
 -- The two ends of a call.
 module _ (k : ℕ) (r : Receiver) (b : List ℕ) where
-  call_waits : length b < missing r b → receives k r b ≡ record { taken = length b; gives = none; state = with k r b }
+  call_waits : length b < missing r b → receives k r b ≡ record { taken = length b; gives = None; state = with k r b }
   unfolding waiting
   call_waits l = ap framed (waits k r b l)
 
   call_completes : missing r b ≤ length b → receives k r b ≡ framed (completed k r b (missing r b))
   call_completes l = ap framed (completes k r b l)
 
-  none_waits : (receives k r b).gives ≡ none → length b < missing r b
+  none_waits : (receives k r b).gives ≡ None → length b < missing r b
   unfolding completed
   none_waits g =
       lt_cases (length b) (missing r b)
@@ -43,7 +43,7 @@ module _ (k : ℕ) (r : Receiver) (b : List ℕ) where
       (λ l. let h = sym (ap (λ (t : Call Receiver Framed). t.gives) (call_completes l)) ∙ g in
       let z : ◌≡◌ {A = ℕ} 0 1 = cc in absurd (omega arith))
 
-  some_completes : (e : Framed) → (receives k r b).gives ≡ some e → missing r b ≤ length b
+  some_completes : (e : Framed) → (receives k r b).gives ≡ Some e → missing r b ≤ length b
   some_completes e g =
       lt_cases (length b) (missing r b)
       (λ l. let h = sym (ap (λ (t : Call Receiver Framed). t.gives) (call_waits l)) ∙ g in
@@ -66,7 +66,7 @@ pub receiver_streams : (k : ℕ) → Streaming (receives k) Made
 receiver_streams k =
     record {
       keeps = λ r b m. keeps_made k r b m;
-      empty = λ r m. call_waits k r [] (omega (arith, missing_least r [])) ∙ ap (λ (q : Receiver). record { taken = 0; gives = none; state = q }) (with_nil k r);
+      empty = λ r m. call_waits k r [] (omega (arith, missing_least r [])) ∙ ap (λ (q : Receiver). record { taken = 0; gives = None; state = q }) (with_nil k r);
       cut = λ r a b m g.
           let l = none_waits k r a g in
           ap framed (cut k r a b m.header l)

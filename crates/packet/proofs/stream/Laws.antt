@@ -8,7 +8,8 @@ use Rattle.packet.specs.Calls.{joined}
 use Rattle.packet.specs.Number.{Bytes}
 use Rattle.packet.specs.Packet.{payload_length, payload, checksum, right_sum}
 use Rattle.packet.specs.Stream.{next_in, size, has_packet, packets_in, packets, bytes_in, rest}
-use Rattle.packet.specs.declared.stream.Next.TheVariants.{Packet, Nothing}
+use Rattle.std.specs.Prelude.{None, Some}
+use Rattle.packet.specs.declared.stream.WholePacket.{WholePacket}
 use Rattle.packet.proofs.Cases.{cond_cases, bool_cases, and_right, and_both}
 use Rattle.packet.proofs.number.Laws.{bytes_take, bytes_drop, byte_get}
 
@@ -228,19 +229,22 @@ rest_nil = refl
 
 -- What next_packet tells: a whole packet, its size and whether its checksum is right, or none.
 
-pub next_some : (b : List ℕ) (n : ℕ) (right : Bool) → next_in b ≡ Packet n right → (has_packet b ≡ true) × (size b ≡ n) × (right_sum b ≡ right)
+abbrev found : List ℕ → WholePacket
+found b = record { size = size b; right = right_sum b }
+
+pub next_some : (b : List ℕ) (p : WholePacket) → next_in b ≡ Some p → (has_packet b ≡ true) × (size b ≡ p.size) × (right_sum b ≡ p.right)
 unfolding next_in
-next_some b n right = go (has_packet b) refl
+next_some b p = go (has_packet b) refl
   where
-    go : (h : Bool) → has_packet b ≡ h → cond h (Packet (size b) (right_sum b)) Nothing ≡ Packet n right → (has_packet b ≡ true) × (size b ≡ n) × (right_sum b ≡ right)
-    go true e q = (e, cc, cc)
+    go : (h : Bool) → has_packet b ≡ h → cond h (Some (found b)) None ≡ Some p → (has_packet b ≡ true) × (size b ≡ p.size) × (right_sum b ≡ p.right)
+    go true e q = let f : found b ≡ p = cc in (e, ap (λ (x : WholePacket). x.size) f, ap (λ (x : WholePacket). x.right) f)
     go false e q = let z : ◌≡◌ {A = ℕ} 0 1 = cc in absurd (omega arith)
 
-pub next_none : (b : List ℕ) → next_in b ≡ Nothing → has_packet b ≡ false
+pub next_none : (b : List ℕ) → next_in b ≡ None → has_packet b ≡ false
 unfolding next_in
 next_none b = go (has_packet b) refl
   where
-    go : (h : Bool) → has_packet b ≡ h → cond h (Packet (size b) (right_sum b)) Nothing ≡ Nothing → has_packet b ≡ false
+    go : (h : Bool) → has_packet b ≡ h → cond h (Some (found b)) None ≡ None → has_packet b ≡ false
     go true e q = let z : ◌≡◌ {A = ℕ} 0 1 = cc in absurd (omega arith)
     go false e q = e
 
@@ -267,7 +271,7 @@ size_most b h = omega (arith, byte_get b 4 h, byte_get b 5 h)
 
 -- The packet at a place of a buffer, n being what its length field says.
 module _ (b : List ℕ) (at : ℕ) where
-  pub none_begun : length b < at + 7 → Nothing ≡ next_in (drop at b)
+  pub none_begun : length b < at + 7 → None ≡ next_in (drop at b)
   unfolding next_in
   none_begun l = rw (no_header (drop at b) (simp length-drop (omega arith)))
 
@@ -275,7 +279,7 @@ module _ (b : List ℕ) (at : ℕ) where
   unfolding size
   size_at e = rw (get_or-drop at b 4 0, get_or-drop at b 5 0) (omega arith)
 
-  pub none_ended : {n : ℕ} → n ≡ get_or b (at + 4) 0 + 256 * get_or b (at + 5) 0 → length b < at + (7 + n) → Nothing ≡ next_in (drop at b)
+  pub none_ended : {n : ℕ} → n ≡ get_or b (at + 4) 0 + 256 * get_or b (at + 5) 0 → length b < at + (7 + n) → None ≡ next_in (drop at b)
   unfolding next_in
   none_ended e l = rw (no_end (drop at b) (simp length-drop (omega (arith, size_at e))))
 
@@ -292,7 +296,7 @@ module _ (b : List ℕ) (at : ℕ) where
 
   pub next_at : {n : ℕ} {right : Bool} {p : List ℕ} → n ≡ get_or b (at + 4) 0 + 256 * get_or b (at + 5) 0 → at + (7 + n) ≤ length b
       → p ≡ take (7 + n) (drop at b)
-      → right ≡ eqb (get_or p (length p - 1) 0) (checksum (take (length p - 1) p)) → Packet (7 + n) right ≡ next_in (drop at b)
+      → right ≡ eqb (get_or p (length p - 1) 0) (checksum (take (length p - 1) p)) → Some (record { size = 7 + n; right = right }) ≡ next_in (drop at b)
   unfolding next_in
   next_at {n} {right} {p} e l f g =
       let h : has_packet (drop at b) ≡ true = has_packet_lem (drop at b) (simp length-drop (omega arith)) (simp length-drop (omega (arith, size_at e))) in

@@ -6,4 +6,4 @@ use Rattle.packet.proofs.receiver.keep.Goals as goal
 pub returns : goal.returns
 returns c =
     c.store.ensures
-    ∙ rw (c.less-2.ensures, dropped c.args.b.now c.args.received (rw c.less.ensures at c.least-skip.ensures))
+    ∙ rw (c.saturating_sub-2.ensures, dropped c.args.b.now c.args.received (rw c.saturating_sub.ensures at c.min-skip.ensures))

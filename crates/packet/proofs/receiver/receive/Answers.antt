@@ -9,8 +9,8 @@ returns-then-before-input c =
     let a = c.args in
     let came = receiver_of a.header.now a.sum a.received a.hold.now in
     let six : length a.header.now ≡ 6 = search rules in
-    let before = c.less-before.ensures ∙ ap (λ (n : ℕ). 6 + n - a.received) c.word.ensures.0 in (
-      receive_completes a.first came a.input.now six c.store.ensures before c.least-n.ensures c.running_sum-total.ensures
+    let before = c.saturating_sub-before.ensures ∙ ap (λ (n : ℕ). 6 + n - a.received) c.word.ensures.0 in (
+      receive_completes a.first came a.input.now six c.store.ensures before c.min-n.ensures c.running_sum-total.ensures
           c.keep.ensures c.if-before-input.true,
       omega arith,
     )
@@ -20,8 +20,8 @@ returns c =
     let a = c.args in
     let came = receiver_of a.header.now a.sum a.received a.hold.now in
     let six : length a.header.now ≡ 6 = search rules in
-    let before = c.less-before.ensures ∙ ap (λ (n : ℕ). 6 + n - a.received) c.word.ensures.0 in (
-      receive_waits a.first came a.input.now six c.store.ensures before c.least-n.ensures c.running_sum-total.ensures
+    let before = c.saturating_sub-before.ensures ∙ ap (λ (n : ℕ). 6 + n - a.received) c.word.ensures.0 in (
+      receive_waits a.first came a.input.now six c.store.ensures before c.min-n.ensures c.running_sum-total.ensures
           c.keep.ensures c.if-before-input.false,
-      omega (arith, c.less-before.ensures, c.word.ensures.1, c.least-n.ensures),
+      omega (arith, c.saturating_sub-before.ensures, c.word.ensures.1, c.min-n.ensures),
     )

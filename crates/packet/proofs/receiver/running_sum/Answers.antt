@@ -9,15 +9,15 @@ covered b n m e = rw e (take_all (length b - m) (drop m b) (omega (arith, length
 
 pub returns-then-b-skip : goal.returns-then-b-skip
 returns-then-b-skip c =
-    let a = c.args in running_stays a.first a.received a.sum a.b.now (omega (arith, c.less-skip.ensures))
+    let a = c.args in running_stays a.first a.received a.sum a.b.now (omega (arith, c.saturating_sub-skip.ensures))
 
 pub returns-then-received-first : goal.returns-then-received-first
 returns-then-received-first c =
     let a = c.args in
     c.sum_with.ensures
-    ∙ running_anew a.first a.received a.sum a.b.now (omega (arith, c.less-skip.ensures)) (omega arith) (covered a.b.now _ _ c.less-skip.ensures)
+    ∙ running_anew a.first a.received a.sum a.b.now (omega (arith, c.saturating_sub-skip.ensures)) (omega arith) (covered a.b.now _ _ c.saturating_sub-skip.ensures)
 
 pub returns : goal.returns
 returns c =
     let a = c.args in
-    c.sum_with-2.ensures ∙ running_on a.first a.received a.sum a.b.now (omega (arith, c.less-skip.ensures)) (omega arith)
+    c.sum_with-2.ensures ∙ running_on a.first a.received a.sum a.b.now (omega (arith, c.saturating_sub-skip.ensures)) (omega arith)

@@ -5,4 +5,4 @@ use Rattle.packet.proofs.writer.put_header.Goals as goal
 
 pub returns : goal.returns
 unfolding bytes_of
-returns c = refl
+returns c = rw c.to_le_bytes.ensures refl

@@ -26,5 +26,5 @@ returns c =
       rw e
           (c.seal.ensures
           ∙ rw (c.store.ensures, c.put_header.ensures, k)
-          (sealed_front (header a.kind a.cmd1 a.cmd2 a.flags n ++ a.payload.now) a.out.now (omega arith))),
+          (sealed_front (header a.h.kind a.h.cmd1 a.h.cmd2 a.h.flags n ++ a.payload.now) a.out.now (omega arith))),
     )
