@@ -5,7 +5,7 @@ use mathlib.Core.Logic.{◌↔◌, ◌⊎◌, inl, inr}
 use mathlib.Core.Bool.{true, false}
 use mathlib.Core.List.{List, [], ◌∷◌, ◌++◌}
 use native.Mathlib.Omega.{arith}
-use mathlib.Core.Option.{some}
+use Rattle.std.specs.Prelude.{Option, Some}
 use lib.Dec.{eqb, ltb}
 use lib.ListN.{length, take, drop, get_or, length-append}
 use lib.Seq.{take_at, drop_at}
@@ -33,7 +33,6 @@ use Rattle.command.specs.Endpoint.{taken_by, arrived_in, judged_in, response_in,
 use Rattle.command.specs.Sending.{Sending, sent_to, Boundary}
 use Rattle.command.specs.Demand1.{Names, Continues, Starts, Completes, FirstFault, UnknownType, UnknownFlags, NoWriteInParts, NoneOpen, OpenForAnother, StillOpen, SettingsOutOfRule, DrawsOn, error_packet, write_response_to, Accepted, Opens, Adds, CarriesOut, Stores, ReadsOut, ErrorSent, accepted_writes, store_all, AllBad, NoPacket, BadPacket, Demand1}
 use Rattle.command.specs.declared.table.Command.{Command}
-use Rattle.command.specs.declared.table.Found.{Found}
 use Rattle.command.specs.declared.settings.Settings.{Settings}
 use Rattle.command.specs.declared.faults.Codes.{Codes}
 use Rattle.command.specs.declared.judgement.Judgement.{Judgement}
@@ -209,7 +208,7 @@ module _ (a : State) (q : List ℕ) where
       (λ c e h.
       let k : Names (cmd1_of q) (cmd2_of q) c = known_code (cmd1_of q) (cmd2_of q) c e in
       let none : (n : ℕ) → FirstFault a.transfer (arrived q) n → ⊥ =
-      no_fault a.transfer (arrived q) (ap (λ (f : Found). any_fault (faults f a.transfer (arrived q))) e ∙ h) in
+      no_fault a.transfer (arrived q) (ap (λ (f : Option Command). any_fault (faults f a.transfer (arrived q))) e ∙ h) in
       record {
         hold = accepts_part c k none;
         read = λ _ r _. accepts_read c k none (eqb-true (type_of q) host_read r);
@@ -337,7 +336,7 @@ sent_settings : (c : Controller) (b : List ℕ) (s : Sending b) → Boundary c �
 sent_settings c b s k = ap (λ (a : State). a.settings) (follows_played c b s k).ends
 
 -- settings out of rule are not played
-not_played : (s : Settings) (b : List ℕ) → SettingsOutOfRule s → (end_settings s b ≡ s) × (end_offence s b ≡ some 0)
+not_played : (s : Settings) (b : List ℕ) → SettingsOutOfRule s → (end_settings s b ≡ s) × (end_offence s b ≡ Some 0)
 not_played s b h = rw ((settings_out s).1 h) (refl, refl)
 
 -- Demand 1, whole.

@@ -1,10 +1,10 @@
 -- Request 4, proved: the byte that the value check names, what the receive call reports, and where playing offends (proofs/player/Offences).
+use Rattle.std.specs.Prelude.{is_none, Option, None, Some}
 use Prim.Native.Nat.{ℕ, zero, suc, ◌<◌, ◌≤◌}
 use mathlib.Core.Path.{◌≡◌, refl, ap, ap₂, sym, ◌∙◌}
 use mathlib.Core.Logic.{◌↔◌, inl, inr}
 use mathlib.Core.Bool.{Bool, true, false, cond, not, ◌&&◌, ◌||◌}
 use mathlib.Core.List.{List, [], ◌∷◌, ◌++◌, map}
-use mathlib.Core.Option.{Option, none, some}
 use native.Mathlib.Omega.{arith}
 use lib.Dec.{eqb, leb, ltb}
 use lib.ListN.{length, take, get_or}
@@ -14,7 +14,7 @@ use Rattle.packet.specs.Calls.{Served}
 use Rattle.packet.specs.Writer.{written}
 use Rattle.packet.proofs.Cases.{cond_cases, and_left, and_right, and_both, or_cases, or_that, never}
 use Rattle.command.specs.Table.{command_of, layout}
-use Rattle.command.specs.Rules.{within, most_patterns, Field, field, fields_of, all_valid, first_wrong, allowed, wrong_byte, byte_of}
+use Rattle.command.specs.Rules.{within, most_patterns, Field, field, fields_of, all_valid, first_wrong, allowed, wrong_byte}
 use Rattle.command.specs.Data.{split_all}
 use Rattle.command.specs.Faults.{Arrived, arrived, faults, list_if, codes_of}
 use Rattle.command.specs.Transfer.{Transfer}
@@ -24,15 +24,11 @@ use Rattle.command.specs.Player.{judged}
 use Rattle.command.specs.Controller.{state_of, in_rule}
 use Rattle.command.specs.Endpoint.{taken_by, arrived_in, judged_in, response_in, After, answered, receive_call}
 use Rattle.command.specs.Sending.{Reply}
-use Rattle.command.specs.Inner.{is_nothing}
 use Rattle.command.specs.Demand1.{joined_data, Draws}
 use Rattle.command.specs.Request4.{starts_from, FirstNotAllowed, named, tied, field_at, Depth, Count, Inversion, Trigger, NamedIn, Draws03, Request4}
 use Rattle.command.specs.declared.table.Command.{Command}
 use Rattle.command.specs.declared.table.Command.TheVariants.{DisplayMode, TestPattern, LedCurrent, StaticColour, DisplaySetting, VideoInput, VideoMode, PatternSequence, SequenceRun}
-use Rattle.command.specs.declared.table.Found.TheVariants.{Known}
 use Rattle.command.specs.declared.judgement.Judgement.{Judgement}
-use Rattle.command.specs.declared.rules.WrongByte.{WrongByte}
-use Rattle.command.specs.declared.rules.WrongByte.TheVariants.{At, Nothing}
 use Rattle.command.specs.declared.controller.Controller.{Controller}
 use Rattle.command.proofs.table.Laws.{each, known_code, same_known}
 use Rattle.command.proofs.rules.Laws.{nothing_wrong}
@@ -132,20 +128,20 @@ module _ (depth : ℕ) where
     or_cases (not (eqb n 6)) (eqb depth 1) (λ z. inl (eqb-false n 6 (not-true _ z))) (λ o. inr (eqb-true depth 1 o)) (and_right (leb n 6) _ h),
   )
 
-  depth_wrong : (others : List ℕ) → (Depth depth → ⊥) → named PatternSequence (depth ∷ others) ≡ some 0
+  depth_wrong : (others : List ℕ) → (Depth depth → ⊥) → named PatternSequence (depth ∷ others) ≡ Some 0
   depth_wrong others h = rw (fails (within 1 8 depth) (is_inside 1 8 depth) h)
 
   module _ (count : ℕ) (d : Depth depth) where
-    count_wrong : (others : List ℕ) → (Count depth count → ⊥) → named PatternSequence (depth ∷ count ∷ others) ≡ some 1
+    count_wrong : (others : List ℕ) → (Count depth count → ⊥) → named PatternSequence (depth ∷ count ∷ others) ≡ Some 1
     count_wrong others h = rw (inside 1 8 depth d, fails (within 1 (most_patterns depth) count) (is_inside 1 (most_patterns depth) count) h)
 
     module _ (inversion : ℕ) (c : Count depth count) where
-      inversion_wrong : (others : List ℕ) → (Inversion depth inversion → ⊥) → named PatternSequence (depth ∷ count ∷ inversion ∷ others) ≡ some 2
+      inversion_wrong : (others : List ℕ) → (Inversion depth inversion → ⊥) → named PatternSequence (depth ∷ count ∷ inversion ∷ others) ≡ Some 2
       inversion_wrong others h =
           rw (inside 1 8 depth d, inside 1 (most_patterns depth) count c, fails (leb inversion 2 && (eqb inversion 0 || eqb depth 1)) (is_inversion inversion) h)
 
       trigger_wrong : (trigger : ℕ) (others : List ℕ) → Inversion depth inversion → (Trigger depth trigger → ⊥)
-          → named PatternSequence (depth ∷ count ∷ inversion ∷ trigger ∷ others) ≡ some 3
+          → named PatternSequence (depth ∷ count ∷ inversion ∷ trigger ∷ others) ≡ Some 3
       trigger_wrong trigger others i h =
           rw (
             inside 1 8 depth d,
@@ -156,21 +152,21 @@ module _ (depth : ℕ) where
 
 -- The byte that is named.
 
-names_none : (w : WrongByte) → (byte_of w ≡ none) ↔ (is_nothing w ≡ true)
-names_none (At n) = (λ e. let z : ◌≡◌ {A = ℕ} 0 1 = cc in absurd (omega arith), λ e. never e)
-names_none Nothing = (λ _. refl, λ _. refl)
+names_none : (w : Option ℕ) → (w ≡ None) ↔ (is_none w ≡ true)
+names_none (Some n) = (λ e. let z : ◌≡◌ {A = ℕ} 0 1 = cc in absurd (omega arith), λ e. never e)
+names_none None = (λ _. refl, λ _. refl)
 
-named_none : (fs : List Field) → (byte_of (first_wrong fs) ≡ none) ↔ (all_valid fs ≡ true)
+named_none : (fs : List Field) → (first_wrong fs ≡ None) ↔ (all_valid fs ≡ true)
 named_none fs =
     let e = nothing_wrong fs in
     let n = names_none (first_wrong fs) in
     (λ h. sym e ∙ n.0 h, λ h. n.1 (e ∙ h))
 
-first_named : (fs : List Field) (n : ℕ) → byte_of (first_wrong fs) ≡ some n → FirstNotAllowed fs n
+first_named : (fs : List Field) (n : ℕ) → first_wrong fs ≡ Some n → FirstNotAllowed fs n
 first_named [] n h = let z : ◌≡◌ {A = ℕ} 0 1 = cc in absurd (omega arith)
 first_named (f ∷ fs) n h = go f.valid refl h (first_named fs n)
   where
-    go : (t : Bool) → f.valid ≡ t → byte_of (cond t (first_wrong fs) (At f.byte)) ≡ some n → (byte_of (first_wrong fs) ≡ some n → FirstNotAllowed fs n)
+    go : (t : Bool) → f.valid ≡ t → cond t (first_wrong fs) (Some f.byte) ≡ Some n → (first_wrong fs ≡ Some n → FirstNotAllowed fs n)
         → FirstNotAllowed (f ∷ fs) n
     go true t h i =
         let r = i h in
@@ -186,15 +182,15 @@ first_named (f ∷ fs) n h = go f.valid refl h (first_named fs n)
     go false t h i = record { before = []; wrong = f; behind = fs; fields = refl; passed = refl; fails = t; byte = cc }
 
 wrong_after : (before : List Field) (f : Field) (behind : List Field) → all_valid before ≡ true → f.valid ≡ false
-    → first_wrong (before ++ (f ∷ behind)) ≡ At f.byte
+    → first_wrong (before ++ (f ∷ behind)) ≡ Some f.byte
 wrong_after [] f behind h e = rw e
 wrong_after (g ∷ before) f behind h e = rw (and_left g.valid _ h) (wrong_after before f behind (and_right g.valid _ h) e)
 
-named_first : (fs : List Field) (n : ℕ) → FirstNotAllowed fs n → byte_of (first_wrong fs) ≡ some n
+named_first : (fs : List Field) (n : ℕ) → FirstNotAllowed fs n → first_wrong fs ≡ Some n
 named_first fs n r =
-    ap (λ (x : List Field). byte_of (first_wrong x)) r.fields
-    ∙ ap byte_of (wrong_after r.before r.wrong r.behind r.passed r.fails)
-    ∙ ap some r.byte
+    ap (λ (x : List Field). first_wrong x) r.fields
+    ∙ wrong_after r.before r.wrong r.behind r.passed r.fails
+    ∙ ap Some r.byte
 
 -- What a packet names.
 
@@ -209,7 +205,7 @@ first_not_03 false false true d e = let z : ◌≡◌ {A = ℕ} 9 3 = cc in omeg
 first_not_03 false false false true e = let z : ◌≡◌ {A = ℕ} 11 3 = cc in omega arith
 first_not_03 false false false false e = let z : ◌≡◌ {A = ℕ} 0 1 = cc in omega arith
 
-none_some : {P : Type 0} {n : ℕ} → ◌≡◌ {A = Option ℕ} none (some n) → P
+none_some : {P : Type 0} {n : ℕ} → ◌≡◌ {A = Option ℕ} None (Some n) → P
 none_some e = let z : ◌≡◌ {A = ℕ} 0 1 = cc in absurd (omega arith)
 
 module _ (mode : ℕ) (t : Transfer) (p : Arrived) where
@@ -219,9 +215,9 @@ module _ (mode : ℕ) (t : Transfer) (p : Arrived) where
   -- a judgement with code 03 alone is that of values that are not allowed
   record Faulty (j : Judgement) : Type 0 where
     command : Command
-    names : command_of p.cmd1 p.cmd2 ≡ Known command
+    names : command_of p.cmd1 p.cmd2 ≡ Some command
     fails : allowed command (values command) ≡ false
-    wrong : wrong_in j ≡ byte_of (wrong_byte command (values command))
+    wrong : wrong_in j ≡ wrong_byte command (values command)
 
   faulty : IsError (judge mode t p) (0x03 ∷ []) → Faulty (judge mode t p)
   unfolding codes_of faults list_if
@@ -248,10 +244,10 @@ module _ (mode : ℕ) (t : Transfer) (p : Arrived) where
       another e = let z : ◌≡◌ {A = ℕ} 7 3 = cc in omega arith
 
   -- and a judgement that names a byte has that code alone
-  naming : (n : ℕ) → wrong_in (judge mode t p) ≡ some n → IsError (judge mode t p) (0x03 ∷ [])
+  naming : (n : ℕ) → wrong_in (judge mode t p) ≡ Some n → IsError (judge mode t p) (0x03 ∷ [])
   unfolding codes_of faults list_if
   naming n =
-      judge_cases (λ (j : Judgement). wrong_in j ≡ some n → IsError j (0x03 ∷ [])) mode t p
+      judge_cases (λ (j : Judgement). wrong_in j ≡ Some n → IsError j (0x03 ∷ [])) mode t p
       (λ _ e. none_some e)
       (λ c k _.
       record {
@@ -264,7 +260,7 @@ module _ (mode : ℕ) (t : Transfer) (p : Arrived) where
         write = λ _ _ _ _ e. none_some e;
       })
 
-  named_exactly : (n : ℕ) → (wrong_in (judge mode t p) ≡ some n) ↔ (Draws mode t p (0x03 ∷ []) × NamedIn t p n)
+  named_exactly : (n : ℕ) → (wrong_in (judge mode t p) ≡ Some n) ↔ (Draws mode t p (0x03 ∷ []) × NamedIn t p n)
   named_exactly n = (
     λ h.
         let e = naming n h in
@@ -278,7 +274,7 @@ module _ (mode : ℕ) (t : Transfer) (p : Arrived) where
         f.wrong ∙ named_first _ n (rw c at h.1.first),
   )
 
-  owes : Draws mode t p (0x03 ∷ []) → wrong_in (judge mode t p) ≡ none → ⊥
+  owes : Draws mode t p (0x03 ∷ []) → wrong_in (judge mode t p) ≡ None → ⊥
   owes d h =
       let f = faulty ((exactly_called mode t p (0x03 ∷ [])).1 d) in
       never (sym f.fails ∙ (named_none (fields_of f.command _)).0 (sym f.wrong ∙ h))
@@ -293,10 +289,10 @@ module _ (c : Controller) (input out : List ℕ) where
   judgement = judge c.settings.mode (state_of c).transfer packet
 
   -- a call that reports a byte answers
-  reporting : (n : ℕ) → (receive_call c input out).wrong ≡ some n → receive_call c input out ≡ answered c (taken_by c input) out
+  reporting : (n : ℕ) → (receive_call c input out).wrong ≡ Some n → receive_call c input out ≡ answered c (taken_by c input) out
   unfolding receive_call
   reporting n =
-      let P : After → Type 0 = λ x. x.wrong ≡ some n → x ≡ answered c (taken_by c input) out in
+      let P : After → Type 0 = λ x. x.wrong ≡ Some n → x ≡ answered c (taken_by c input) out in
       cond_cases P (ltb (length out) 64) (λ _ h. none_some h)
       (λ _. cond_cases P (in_rule c) (λ _. cond_cases P (taken_by c input).complete (λ _ h. refl) (λ _ h. none_some h)) (λ _ h. none_some h))
 
@@ -328,12 +324,12 @@ module _ (c : Controller) (input out : List ℕ) where
   unfolding judged_in
   wrong_03 e = ap (λ (x : After). x.wrong) e
 
-  reported : Draws03 c input out → (receive_call c input out).wrong ≡ none → ⊥
+  reported : Draws03 c input out → (receive_call c input out).wrong ≡ None → ⊥
   reported d e =
       let w = wrong_03 (answers_by c input out d.taken d.size d.answer) in
       owes c.settings.mode (state_of c).transfer packet (judged_03 d) (sym w ∙ e)
 
-  reported_exactly : (n : ℕ) → ((receive_call c input out).wrong ≡ some n) ↔ (Draws03 c input out × NamedIn (state_of c).transfer packet n)
+  reported_exactly : (n : ℕ) → ((receive_call c input out).wrong ≡ Some n) ↔ (Draws03 c input out × NamedIn (state_of c).transfer packet n)
   reported_exactly n =
       let x = named_exactly c.settings.mode (state_of c).transfer packet n in (
         λ h.

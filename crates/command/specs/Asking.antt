@@ -1,6 +1,5 @@
 -- Ask before sending (request 5): the judge call, which disturbs nothing, and the call that carries out a judgement.
-use Rattle.std.specs.Prelude.{ℕ, Bool, cond, ◌&&◌, List, eqb, ltb, length}
-use Rattle.std.proofs.Math.Option.{Option, none, some}
+use Rattle.std.specs.Prelude.{ℕ, Bool, cond, ◌&&◌, List, eqb, ltb, length, Option, None, Some, Result, Ok, Err}
 use Rattle.packet.specs.Packet.{payload}
 use Rattle.packet.specs.Stream.{size, has_packet}
 use Rattle.packet.specs.Writer.{written}
@@ -12,12 +11,11 @@ use Rattle.command.specs.Endpoint.{carried_out}
 use Rattle.command.specs.Encoder.{Outcome, Refuses, Writes}
 use Rattle.command.specs.Ruling.{data_for, ruling_for, brought_in, meant, forged, items_of, items_kept, same_items}
 use Rattle.command.specs.declared.controller.Controller.{Controller}
-use Rattle.command.specs.declared.asking.Asked.{Asked}
-use Rattle.command.specs.declared.asking.Asked.TheVariants as asked
-use Rattle.command.specs.declared.carrying.CarriedOut.{CarriedOut}
-use Rattle.command.specs.declared.carrying.CarriedOut.TheVariants as carried
+use Rattle.command.specs.declared.asking.JudgeRefusal.{JudgeRefusal}
+use Rattle.command.specs.declared.asking.JudgeRefusal.TheVariants as judge
+use Rattle.command.specs.declared.carrying.CarryOutRefusal.{CarryOutRefusal}
+use Rattle.command.specs.declared.carrying.CarryOutRefusal.TheVariants as carry
 use Rattle.command.specs.declared.judgement.Judgement.{Judgement}
-use Rattle.command.specs.declared.asking.Judged.{Judged}
 use Rattle.command.specs.declared.ruling.Ruling.{Ruling}
 use Rattle.command.specs.declared.ruling.JudgementRecord.{JudgementRecord}
 
@@ -26,11 +24,19 @@ pub record Judging : Type 0 where
   pub refusal : Option ℕ
   pub judgement : JudgementRecord
 
--- the number of each answer
-abbrev pub refusal_of : Asked → Option ℕ
-refusal_of asked.Judged = none
-refusal_of asked.OutOfRule = some 3
-refusal_of asked.NotOnePacket = some 5
+-- the number of each refusal
+abbrev pub number_of : JudgeRefusal → ℕ
+number_of judge.OutOfRule = 3
+number_of judge.NotOnePacket = 5
+
+-- the refusal of an answer, where it is one
+abbrev pub refusal_of : Result (Unit {0}) JudgeRefusal → Option ℕ
+refusal_of (Ok u) = None
+refusal_of (Err e) = Some (number_of e)
+
+-- what the call answers, with the record as it left it
+abbrev pub judging_of : Result (Unit {0}) JudgeRefusal → JudgementRecord → Judging
+judging_of answer j = record { refusal = refusal_of answer; judgement = j }
 
 -- the bytes are exactly one packet
 unfoldable pub one_packet : List ℕ → Bool
@@ -38,9 +44,9 @@ one_packet b = has_packet b && eqb (size b) (length b)
 
 -- a refusal touches nothing lent
 abbrev pub refused_with : ℕ → JudgementRecord → Judging
-refused_with n lent = record { refusal = some n; judgement = lent }
+refused_with n lent = record { refusal = Some n; judgement = lent }
 
--- what stands where there is no judgement, and the call is not lent a record: zeros, "error" with no code at all
+-- the ruling of no packet: zeros, "error" with no code at all
 abbrev pub no_ruling : Ruling
 no_ruling =
     record {
@@ -57,14 +63,15 @@ abbrev pub no_judgement : JudgementRecord
 no_judgement = record { ruling = no_ruling; joined = zeros }
 
 -- what the answer of the call by value says
-abbrev pub judged_of : Judged → Judging
-judged_of a = record { refusal = refusal_of a.answer; judgement = a.judgement }
+abbrev pub judged_of : Result JudgementRecord JudgeRefusal → Judging
+judged_of (Ok j) = record { refusal = None; judgement = j }
+judged_of (Err e) = refused_with (number_of e) no_judgement
 
 -- the judgement: its numbers, and its data at the array's start, the rest untouched
 abbrev pub judged_as : Controller → List ℕ → Judgement → JudgementRecord → Judging
 judged_as c p j lent =
     record {
-      refusal = none;
+      refusal = None;
       judgement = record { ruling = ruling_for c p j; joined = written (data_for (held (state_of c).transfer) (payload p) j) lent.joined };
     }
 
@@ -79,13 +86,17 @@ pub record Carrying : Type 0 where
   pub controller : Controller
   pub output : List ℕ
 
--- the number of each answer
-abbrev pub outcome_of : CarriedOut → Outcome
-outcome_of carried.ShortOutput = Refuses 1
-outcome_of carried.OutOfRule = Refuses 3
-outcome_of carried.Forged = Refuses 2
-outcome_of carried.Stale = Refuses 4
-outcome_of (carried.Length n) = Writes n
+-- the number of each refusal, and the length written
+abbrev pub outcome_of : Result ℕ CarryOutRefusal → Outcome
+outcome_of (Err carry.ShortOutput) = Refuses 1
+outcome_of (Err carry.Forged) = Refuses 2
+outcome_of (Err carry.OutOfRule) = Refuses 3
+outcome_of (Err carry.Stale) = Refuses 4
+outcome_of (Ok n) = Writes n
+
+-- what the call answers, with the controller and the output as it left them
+abbrev pub carrying_of : Result ℕ CarryOutRefusal → Controller → List ℕ → Carrying
+carrying_of answer c out = record { answer = outcome_of answer; controller = c; output = out }
 
 -- nothing changes
 abbrev pub refused : ℕ → Controller → List ℕ → Carrying

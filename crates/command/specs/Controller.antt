@@ -1,5 +1,5 @@
 -- The controller: its transfer and its receiver by the controller's numbers, when it is in rule, and a fresh one. Every controller means something, whatever its numbers are.
-use Rattle.std.specs.Prelude.{ℕ, ◌+◌, Bool, cond, ◌&&◌, ◌||◌, List, eqb, leb, length, take, replicate}
+use Rattle.std.specs.Prelude.{Option, None, Some, ℕ, ◌+◌, Bool, cond, ◌&&◌, ◌||◌, List, eqb, leb, length, take, replicate}
 use Rattle.std.proofs.lemmas.List.Edits.{sets}
 use Rattle.packet.specs.Packet.{type_of, cmd1_of, cmd2_of, flags_of, payload_length}
 use Rattle.packet.specs.Receiver.{Receiver, packet_in_rule}
@@ -9,14 +9,13 @@ use Rattle.command.specs.Rules.{settings_in_rule}
 use Rattle.command.specs.Transfer.{Transfer, Closed, Opened}
 use Rattle.command.specs.Faults.{Arrived}
 use Rattle.command.specs.Player.{State}
-use Rattle.command.specs.declared.table.Found.{Found}
-use Rattle.command.specs.declared.table.Found.TheVariants.{Known, Unknown}
 use Rattle.command.specs.declared.settings.Settings.{Settings}
 use Rattle.command.specs.declared.transfer.TransferState.{TransferState}
 use Rattle.command.specs.declared.judgement.Judgement.{Judgement}
 use Rattle.command.specs.declared.judgement.Judgement.TheVariants.{Error, Hold, Write, Read}
 use Rattle.command.specs.declared.controller.Registers.{Registers}
 use Rattle.command.specs.declared.controller.Controller.{Controller}
+use Rattle.command.specs.declared.table.Command.{Command}
 
 -- The transfer: none is open where `active` is 0.
 
@@ -28,9 +27,9 @@ transfer_of r = record { active = r.active; cmd1 = r.cmd1; cmd2 = r.cmd2; held =
 abbrev pub held_in : TransferState → ℕ
 held_in t = cond (eqb t.active 0) 0 t.held
 
-abbrev pub opened_for : Found → List ℕ → Transfer
-opened_for Unknown d = Closed
-opened_for (Known c) d = Opened c d
+abbrev pub opened_for : Option Command → List ℕ → Transfer
+opened_for None d = Closed
+opened_for (Some c) d = Opened c d
 
 -- the open transfer, its held data being the first bytes of the array `buffer`
 abbrev pub transfer_in : TransferState → List ℕ → Transfer

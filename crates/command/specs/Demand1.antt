@@ -1,9 +1,8 @@
 -- Demand 1: "Every call answers on every input and controller handed to it, damaged ones included. A bad packet gets the error packet its faults call for and
 -- leaves all settings as they stood; a bad call gets its refusal number and touches nothing lent."
 -- The faults of a packet are said here once more, line by line as document 01 lists them, by equations and orders: of the rules only the table's columns are cited.
-use Rattle.std.specs.Prelude.{ℕ, ◌+◌, ◌<◌, ◌≤◌, ◌≡◌, ◌↔◌, ◌⊎◌, false, cond, length, take, drop, get_or}
+use Rattle.std.specs.Prelude.{ℕ, ◌+◌, ◌<◌, ◌≤◌, ◌≡◌, ◌↔◌, ◌⊎◌, false, cond, length, take, drop, get_or, Some}
 use mathlib.Core.List.{List, [], ◌∷◌, ◌++◌, Memᴰ}
-use Rattle.std.proofs.Math.Option.{some}
 use Rattle.packet.specs.Answer.{Refuses, Waits, Answers, Answering}
 use Rattle.packet.specs.Packet.{type_of, cmd1_of, cmd2_of, flags_of, payload_length, payload, checksum, packet_of, error, host_write, host_read, write_response, read_response, whole, beginning, intermediate, last}
 use Rattle.packet.specs.Stream.{packets}
@@ -220,7 +219,7 @@ pub record Demand1 : Type 0 where
       Answering (λ n. r.answer ≡ Refuses n) out 64 3 (OutOfRule c) ((r.controller ≡ c) × (r.output ≡ out))
       (r.answer ≡ cond t.complete (Answers t.taken (length (response_in c t))) (Waits (length input)))
   -- playing is no call of the table: settings out of rule are not played, they stay and the place is 0
-  pub play : (s : Settings) (b : List ℕ) → SettingsOutOfRule s → (end_settings s b ≡ s) × (end_offence s b ≡ some 0)
+  pub play : (s : Settings) (b : List ℕ) → SettingsOutOfRule s → (end_settings s b ≡ s) × (end_offence s b ≡ Some 0)
   -- the encoder: 1 and 2; else the length of one whole packet
   pub encode : (v : Value) (out : List ℕ)
       → let r = encode_call v out in

@@ -1,5 +1,5 @@
 -- The encoder and the standard shipping list.
-use Rattle.std.specs.Prelude.{ℕ, cond, List, [], ◌∷◌, ◌++◌, eqb, ltb, length}
+use Rattle.std.specs.Prelude.{ℕ, cond, List, [], ◌∷◌, ◌++◌, eqb, ltb, length, Result, Ok, Err}
 use Rattle.packet.specs.Packet.{packet_of, host_write, whole}
 use Rattle.packet.specs.Writer.{written}
 use Rattle.command.specs.Table.{table, cmd1_for, cmd2_for}
@@ -8,19 +8,19 @@ use Rattle.command.specs.Value.{data_of, command_in, values_in, data_in}
 use Rattle.command.specs.declared.table.Command.{Command}
 use Rattle.command.specs.declared.settings.Settings.{Settings}
 use Rattle.command.specs.declared.value.Value.{Value}
-use Rattle.command.specs.declared.encoder.Encoded.{Encoded}
-use Rattle.command.specs.declared.encoder.Encoded.TheVariants.{Length, ShortOutput, NotAllowed, OutOfRule}
+use Rattle.command.specs.declared.encoder.EncodeRefusal.{EncodeRefusal}
+use Rattle.command.specs.declared.encoder.EncodeRefusal.TheVariants.{ShortOutput, NotAllowed, OutOfRule}
 
 -- What the two calls answer, in the numbers of document 01: a refusal's number, or the length written at the output's start.
 pub data Outcome : Type 0 where
   Refuses : ℕ → Outcome
   Writes : ℕ → Outcome
 
-abbrev pub outcome_of : Encoded → Outcome
-outcome_of ShortOutput = Refuses 1
-outcome_of NotAllowed = Refuses 2
-outcome_of OutOfRule = Refuses 3
-outcome_of (Length n) = Writes n
+abbrev pub outcome_of : Result ℕ EncodeRefusal → Outcome
+outcome_of (Err ShortOutput) = Refuses 1
+outcome_of (Err NotAllowed) = Refuses 2
+outcome_of (Err OutOfRule) = Refuses 3
+outcome_of (Ok n) = Writes n
 
 -- The same as two numbers, for callers that know no enum: the refusal's number, 0 where there is none,
 abbrev pub refusal_of : Outcome → ℕ

@@ -1,7 +1,6 @@
 -- The receive call: when it refuses, and what it answers and leaves.
-use Rattle.std.specs.Prelude.{ℕ, cond, List, ltb, length, take}
-use Rattle.std.proofs.Math.Option.{Option, none}
-use Rattle.packet.specs.Answer.{Outcome, Refuses, Waits, Answers}
+use Rattle.std.specs.Prelude.{ℕ, cond, List, ltb, length, take, Option, None}
+use Rattle.packet.specs.Answer.{Outcome, Refuses, Waits, Answers, outcome_of}
 use Rattle.packet.specs.Packet.{payload_length}
 use Rattle.packet.specs.Receiver.{Receiver, Received, receiving}
 use Rattle.packet.specs.Writer.{written}
@@ -14,6 +13,7 @@ use Rattle.command.specs.declared.transfer.TransferState.{TransferState}
 use Rattle.command.specs.declared.judgement.Judgement.{Judgement}
 use Rattle.command.specs.declared.controller.Registers.{Registers}
 use Rattle.command.specs.declared.controller.Controller.{Controller}
+use Rattle.command.specs.declared.endpoint.Reply.{Reply}
 
 -- the bytes taken by the receiver; the checksum covers every byte of a packet, from place 0 on
 abbrev pub taken_by : Controller → List ℕ → Received
@@ -60,16 +60,20 @@ pub record After : Type 0 where
   pub controller : Controller
   pub output : List ℕ
 
+-- what the call answers, with the controller and the output as it left them
+abbrev pub after_of : Reply → Controller → List ℕ → After
+after_of r c out = record { answer = outcome_of r.answer; wrong = r.wrong; controller = c; output = out }
+
 -- a refusal takes nothing and leaves buffer and controller untouched
 abbrev pub refused : ℕ → Controller → List ℕ → After
-refused n c out = record { answer = Refuses n; wrong = none; controller = c; output = out }
+refused n c out = record { answer = Refuses n; wrong = None; controller = c; output = out }
 
 -- "waiting": all bytes taken, output untouched
 abbrev pub waiting : Controller → Received → List ℕ → After
 waiting c t out =
     record {
       answer = Waits t.taken;
-      wrong = none;
+      wrong = None;
       controller =
           record {
             settings = c.settings;

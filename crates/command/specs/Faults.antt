@@ -1,12 +1,10 @@
 -- The first group of faults of a complete packet, the codes that come alone, and the bytes that report them. Codes have the names that source document 002 gives them.
-use Rattle.std.specs.Prelude.{ℕ, ◌+◌, Bool, true, false, cond, not, ◌&&◌, ◌||◌, List, [], ◌∷◌, eqb, ltb, length}
+use Rattle.std.specs.Prelude.{Option, None, ℕ, ◌+◌, Bool, true, false, cond, not, ◌&&◌, ◌||◌, List, [], ◌∷◌, eqb, ltb, length}
 use Rattle.packet.specs.Packet.{type_of, cmd1_of, cmd2_of, flags_of, payload_length, payload, right_sum, host_write, host_read, whole, beginning, intermediate, last}
 use Rattle.command.specs.Table.{is_known, can_read}
 use Rattle.command.specs.Transfer.{Transfer, is_open, held, open_for}
-use Rattle.command.specs.declared.table.Found.{Found}
 use Rattle.command.specs.declared.faults.Codes.{Codes}
-use Rattle.command.specs.declared.rules.WrongByte.{WrongByte}
-use Rattle.command.specs.declared.rules.WrongByte.TheVariants.{Nothing}
+use Rattle.command.specs.declared.table.Command.{Command}
 
 -- a complete packet, as far as it is judged
 pub record Arrived : Type 0 where
@@ -38,7 +36,7 @@ continues f = eqb f intermediate || eqb f last
 -- First group, every one that holds is reported.
 
 -- 02: type neither 02 nor 04, or command not in the table, or a read of 01 06
-unfoldable pub wrong_command : Found → ℕ → Bool
+unfoldable pub wrong_command : Option Command → ℕ → Bool
 wrong_command c type = not (eqb type host_write || eqb type host_read) || not (is_known c) || (eqb type host_read && not (can_read c))
 
 -- 04: payload length over 1,024; or flags 02 or 03 with a transfer open and held bytes plus this payload over 1,024
@@ -52,7 +50,7 @@ wrong_order opened ours type flags =
     ltb last flags || (not (eqb type host_write) && not (eqb flags whole)) || (continues flags && not ours) || ((eqb flags whole || eqb flags beginning) && opened)
 
 -- the codes of the first group that a packet draws, with a transfer open or none; 09: checksum wrong
-unfoldable pub faults : Found → Transfer → Arrived → Codes
+unfoldable pub faults : Option Command → Transfer → Arrived → Codes
 faults c t p =
     record {
       failure = false;
@@ -66,7 +64,7 @@ faults c t p =
       checksum = not p.right;
       format = false;
       continuation = wrong_order (is_open t) (open_for c t) p.type p.flags;
-      wrong = Nothing;
+      wrong = None;
     }
 
 -- one of the first group holds
@@ -89,11 +87,11 @@ size_fault =
       checksum = false;
       format = true;
       continuation = false;
-      wrong = Nothing;
+      wrong = None;
     }
 
 -- 03 names the byte that is wrong
-abbrev pub value_fault : WrongByte → Codes
+abbrev pub value_fault : Option ℕ → Codes
 value_fault w =
     record {
       failure = false;
@@ -124,7 +122,7 @@ mode_fault =
       checksum = false;
       format = false;
       continuation = false;
-      wrong = Nothing;
+      wrong = None;
     }
 
 -- a code if its fault holds, and then others

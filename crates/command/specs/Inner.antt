@@ -1,32 +1,18 @@
 -- Definitions that exist for the code or a proof alone; nothing here has to be believed. The comment of each says what it stands for, and names the law that ties it to the definition of the paper's words.
-use Rattle.std.specs.Prelude.{ℕ, zero, suc, ◌+◌, ◌*◌, ◌≤◌, ◌≡◌, Bool, true, false, cond, not, ◌&&◌, ◌||◌, List, [], ◌∷◌, ◌++◌, eqb, leb, length, take, drop, get_or}
-use Rattle.std.proofs.Math.Option.{Option, none, some}
-use Rattle.packet.specs.Number.{bytes_of}
-use Rattle.packet.specs.Writer.{written}
-use Rattle.command.specs.Table.{table, has_code, layout, size_of, readable}
+use Rattle.std.specs.Prelude.{ℕ, zero, suc, ◌+◌, ◌*◌, Bool, true, false, cond, not, ◌&&◌, ◌||◌, List, [], ◌∷◌, eqb, leb, length, take, get_or, Option, None, Some}
+use Rattle.command.specs.Table.{has_code, layout, size_of, readable}
 use Rattle.command.specs.Rules.{allowed}
 use Rattle.command.specs.Faults.{wrong_command, too_long, wrong_order}
 use Rattle.command.specs.Data.{split_all}
 use Rattle.command.specs.Value.{value_from}
 use Rattle.command.specs.Player.{State}
 use Rattle.command.specs.Judgement.{judge_write}
-use Rattle.command.specs.Carry.{settings_after}
-use Rattle.command.specs.Response.{response_to}
-use Rattle.command.specs.Controller.{transfer_of, held_in, transfer_in, receiver_in, transfer_in_rule, transfer_state_after, buffer_after}
+use Rattle.command.specs.Controller.{held_in, transfer_in, receiver_in, transfer_in_rule}
 use Rattle.command.specs.Ruling.{acceptance, holds, writes, reads, no_wrong, transfer_of_kept}
 use Rattle.command.specs.Endpoint.{After, answered}
-use Rattle.command.specs.Encoder.{Writes}
-use Rattle.command.specs.Asking.{outcome_of}
 use Rattle.command.specs.declared.table.Command.{Command}
-use Rattle.command.specs.declared.table.Command.TheVariants.{DisplayMode, SequenceRun}
-use Rattle.command.specs.declared.table.Found.{Found}
-use Rattle.command.specs.declared.table.Found.TheVariants.{Known, Unknown}
+use Rattle.command.specs.declared.table.Command.TheVariants.{DisplayMode}
 use Rattle.command.specs.declared.faults.Codes.{Codes}
-use Rattle.command.specs.declared.rules.WrongByte.{WrongByte}
-use Rattle.command.specs.declared.rules.WrongByte.TheVariants.{At, Nothing}
-use Rattle.command.specs.declared.value.Parsed.{Parsed}
-use Rattle.command.specs.declared.value.Parsed.TheVariants.{Values, WrongSize}
-use Rattle.command.specs.declared.data.Data.{Data}
 use Rattle.command.specs.declared.settings.Settings.{Settings}
 use Rattle.command.specs.declared.transfer.TransferState.{TransferState}
 use Rattle.command.specs.declared.controller.Controller.{Controller}
@@ -34,19 +20,8 @@ use Rattle.command.specs.declared.controller.Registers.{Registers}
 use Rattle.command.specs.declared.judgement.Judgement.{Judgement}
 use Rattle.command.specs.declared.judgement.Judgement.TheVariants.{Hold, Read}
 use Rattle.command.specs.declared.ruling.Ruling.{Ruling}
-use Rattle.command.specs.declared.carrying.Performed.{Performed}
-use Rattle.command.specs.declared.carrying.Meant.{Meant}
-use Rattle.command.specs.declared.carrying.Meant.TheVariants as means
-use Rattle.command.specs.declared.carrying.Meant.TheVariants.{By}
-
--- the command in line k of the table, from 0; past the end, the last: the contract of Command::at; put_list goes through `table` by it
-abbrev pub command_at : ℕ → Command
-command_at k = get_or table k SequenceRun
-
--- no byte is wrong: `allowed`, where it is wrong_byte (law nothing_wrong of rules/Laws)
-abbrev pub is_nothing : WrongByte → Bool
-is_nothing (At n) = false
-is_nothing Nothing = true
+use Rattle.command.specs.declared.ruling.JudgementRecord.{JudgementRecord}
+use Rattle.command.specs.declared.value.Value.{Value}
 
 -- Data by their layout.
 
@@ -65,24 +40,9 @@ abbrev pub split_from : ℕ → List ℕ → List ℕ → List ℕ
 split_from at [] d = []
 split_from at (w ∷ ws) d = number_at w d at ∷ split_from (at + w) ws d
 
--- d with the bytes of the numbers appended, by their widths: join_all where d is empty (law join_onto_lem of data/Laws)
-abbrev pub join_onto : List ℕ → List ℕ → List ℕ → List ℕ
-join_onto d [] vs = d
-join_onto d (w ∷ ws) [] = d
-join_onto d (w ∷ ws) (v ∷ vs) = join_onto (d ++ bytes_of w v) ws vs
-
 -- the values that stand in data of the command's size: what judge_write looks at (law write_parsed of judgement/Laws)
-unfoldable pub parsed : Command → List ℕ → Parsed
-parsed c d = cond (eqb (length d) (size_of c)) (Values (value_from c (split_all (layout c) d))) WrongSize
-
--- the bytes of d that count: those that a packet is written with (the contract of emit)
-abbrev pub contents : Data → List ℕ
-contents d = take d.count d.bytes
-
--- d holds these bytes, and no more than it has room for
-pub record Holds (d : Data) (b : List ℕ) : Type 0 where
-  pub bytes : contents d ≡ b
-  pub room : d.count ≤ 17
+unfoldable pub parsed : Command → List ℕ → Option Value
+parsed c d = cond (eqb (length d) (size_of c)) (Some (value_from c (split_all (layout c) d))) None
 
 -- The open transfer by the controller's numbers: those of specs/Transfer by the laws open_is and open_for_is of transfer/Laws.
 
@@ -90,12 +50,12 @@ abbrev pub is_open_in : TransferState → Bool
 is_open_in t = not (eqb t.active 0)
 
 -- a transfer is open for this command, by its bytes
-abbrev pub open_for_in : Found → TransferState → Bool
-open_for_in Unknown t = false
-open_for_in (Known c) t = is_open_in t && has_code t.cmd1 t.cmd2 c
+abbrev pub open_for_in : Option Command → TransferState → Bool
+open_for_in None t = false
+open_for_in (Some c) t = is_open_in t && has_code t.cmd1 t.cmd2 c
 
 -- the codes of the first group by these numbers: `faults` of a transfer and a packet (law faults_are of transfer/Laws)
-unfoldable pub faults_of : Found → Bool → Bool → ℕ → ℕ → ℕ → ℕ → Bool → Codes
+unfoldable pub faults_of : Option Command → Bool → Bool → ℕ → ℕ → ℕ → ℕ → Bool → Codes
 faults_of c opened ours n type flags size right =
     record {
       failure = false;
@@ -109,13 +69,8 @@ faults_of c opened ours n type flags size right =
       checksum = not right;
       format = false;
       continuation = wrong_order opened ours type flags;
-      wrong = Nothing;
+      wrong = None;
     }
-
--- a place that is known, or else another: the first of the packets that are not acknowledged, known so far (law going_packet of player/Turns)
-abbrev pub or_else : Option ℕ → Option ℕ → Option ℕ
-or_else none o = o
-or_else (some n) o = some n
 
 -- the state of the head by its settings, its transfer's numbers and the array of the transfer's data: state_of of a controller that has these, by computing
 abbrev pub state_in : Settings → TransferState → List ℕ → State
@@ -134,7 +89,7 @@ with_transfer r t =
       sum = r.sum;
     }
 
--- what a call answers and leaves once its packet is complete in the receiver, the checksum right or not and n bytes taken (law answers of endpoint/advance)
+-- what a call answers and leaves once its packet is complete in the receiver, the checksum right or not and n bytes taken (law answers of controller/Controller/receive)
 abbrev pub settled : Controller → Bool → ℕ → List ℕ → After
 settled c right n out = answered c (record { taken = n; complete = true; right = right; receiver = receiver_in c }) out
 
@@ -143,7 +98,11 @@ abbrev pub any_code : Codes → Bool
 any_code k =
     k.failure || k.command || k.parameter || k.memory || k.device || k.busy || k.precondition || k.object || k.checksum || k.format || k.continuation
 
--- A judgement as it is handed out, by the parts that the code has of a controller and of the record.
+-- A judgement as it is handed out.
+
+-- the record of these parts
+abbrev pub record_of : Ruling → List ℕ → JudgementRecord
+record_of n d = record { ruling = n; joined = d }
 
 -- the held bytes of a transfer: those of `transfer_in` (law held_is of transfer/Laws)
 abbrev pub held_by : TransferState → List ℕ → List ℕ
@@ -160,45 +119,19 @@ ruling_in_rule n =
 
 -- a judgement that is a write, and no other
 abbrev pub if_write : Judgement → Option Judgement
-if_write j = cond (eqb (acceptance j) writes) (some j) none
+if_write j = cond (eqb (acceptance j) writes) (Some j) None
 
 -- what a record without codes means for a command, its joined data being d, unless no packet draws it: `acceptable` and `accepted_as` (law accepted_is of carrying/Laws)
 abbrev pub accepted_by : Command → Ruling → List ℕ → Option Judgement
 accepted_by c n d =
     let t = transfer_of_kept n.kept in
-    let order = eqb t.active 0 || open_for_in (Known c) t in
-    cond (eqb n.accepts holds && order) (some (Hold c))
+    let order = eqb t.active 0 || open_for_in (Some c) t in
+    cond (eqb n.accepts holds && order) (Some (Hold c))
     (cond (eqb n.accepts writes && order) (if_write (judge_write c n.kept.mode d))
-    (cond (eqb n.accepts reads && eqb t.active 0 && readable c && eqb n.count 0) (some (Read c)) none))
-
--- what such an answer of the code says
-abbrev pub meant_of : Meant → Option Judgement
-meant_of (By j) = some j
-meant_of means.Nothing = none
+    (cond (eqb n.accepts reads && eqb t.active 0 && readable c && eqb n.count 0) (Some (Read c)) None))
 
 -- both are open for the same command with as many bytes held, or neither is open: the numbers of `same_items` (law same_numbers_lem of carrying/Laws)
 abbrev pub same_numbers : TransferState → TransferState → Bool
 same_numbers t k =
     cond (eqb t.active 0 || eqb k.active 0) (eqb t.active 0 && eqb k.active 0)
     (eqb t.cmd1 k.cmd1 && eqb t.cmd2 k.cmd2 && eqb t.held k.held)
-
--- the judgement j of a record is carried out on a controller of these parts, the bytes that it brought standing from the held ones up to `end`: carries of the record where
--- j is what it means (law carries_is of carrying/Laws). Where the joined data end is known but for an error, which brings none.
-pub record Carries
-    (p : Performed)
-    (buffer' out' : List ℕ)
-    (s : Settings)
-    (r : Registers)
-    (buffer : List ℕ)
-    (n : Ruling)
-    (joined : List ℕ)
-    (j : Judgement)
-    (out : List ℕ) : Type 0 where
-  pub end : ℕ
-  pub known : held_in (transfer_of r) ≤ n.count → n.count ≤ 1024 → end ≡ n.count
-  pub settings : p.settings ≡ settings_after s j
-  pub registers : p.registers ≡ with_transfer r (transfer_state_after (transfer_of r) (drop (held_in (transfer_of r)) (take end joined)) j)
-  pub held : buffer' ≡ buffer_after (transfer_of r) buffer (drop (held_in (transfer_of r)) (take end joined)) j
-  pub stored : p.stored ≡ true
-  pub answer : outcome_of p.answer ≡ Writes (length (response_to n.cmd1 n.cmd2 s j))
-  pub output : out' ≡ written (response_to n.cmd1 n.cmd2 s j) out

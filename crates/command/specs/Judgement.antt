@@ -1,5 +1,5 @@
 -- How a complete packet is judged.
-use Rattle.std.specs.Prelude.{ℕ, Bool, cond, ◌||◌, List, ◌++◌, eqb, length}
+use Rattle.std.specs.Prelude.{Option, None, Some, ℕ, Bool, cond, ◌||◌, List, ◌++◌, eqb, length}
 use Rattle.packet.specs.Packet.{host_read, whole, last}
 use Rattle.command.specs.Table.{command_of, layout, size_of}
 use Rattle.command.specs.Rules.{allowed, wrong_byte, blocked}
@@ -8,8 +8,6 @@ use Rattle.command.specs.Value.{value_from}
 use Rattle.command.specs.Transfer.{Transfer, held}
 use Rattle.command.specs.Faults.{Arrived, faults, any_fault, size_fault, value_fault, mode_fault}
 use Rattle.command.specs.declared.table.Command.{Command}
-use Rattle.command.specs.declared.table.Found.{Found}
-use Rattle.command.specs.declared.table.Found.TheVariants.{Known, Unknown}
 use Rattle.command.specs.declared.judgement.Judgement.{Judgement}
 use Rattle.command.specs.declared.judgement.Judgement.TheVariants.{Error, Hold, Write, Read}
 
@@ -36,10 +34,10 @@ judge_data c mode type flags d =
     cond (completes flags) (cond (eqb type host_read) (judge_read c (length d)) (judge_write c mode d)) (Hold c)
 
 -- a packet of this command: a command not in the table is a fault of the first group by itself
-unfoldable pub judge_as : Found → ℕ → Transfer → Arrived → Judgement
-judge_as Unknown mode t p = Error (faults Unknown t p)
-judge_as (Known c) mode t p =
-    cond (any_fault (faults (Known c) t p)) (Error (faults (Known c) t p)) (judge_data c mode p.type p.flags (held t ++ p.body))
+unfoldable pub judge_as : Option Command → ℕ → Transfer → Arrived → Judgement
+judge_as None mode t p = Error (faults None t p)
+judge_as (Some c) mode t p =
+    cond (any_fault (faults (Some c) t p)) (Error (faults (Some c) t p)) (judge_data c mode p.type p.flags (held t ++ p.body))
 
 -- how a complete packet is judged in a display mode, with a transfer open or none
 unfoldable pub judge : ℕ → Transfer → Arrived → Judgement

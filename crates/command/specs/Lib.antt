@@ -22,6 +22,5 @@ pub mod Demand2
 pub mod Request2
 pub mod Request4
 pub mod Request5
-pub mod Lent
 pub mod Inner
 pub mod Computing

@@ -1,6 +1,5 @@
 -- Playing bytes from given settings, and the play call.
-use Rattle.std.specs.Prelude.{ℕ, ◌+◌, ◌≤◌, min, ◌≡◌, Bool, true, false, ◌&&◌, cond, List, [], ◌∷◌, ◌++◌, length}
-use Rattle.std.proofs.Math.Option.{Option, none, some}
+use Rattle.std.specs.Prelude.{ℕ, ◌+◌, ◌≤◌, min, ◌≡◌, Bool, true, false, ◌&&◌, cond, List, [], ◌∷◌, ◌++◌, length, Option, None, Some}
 use Rattle.packet.specs.Calls.{joined}
 use Rattle.packet.specs.Stream.{packets, bytes_in, rest}
 use Rattle.command.specs.Rules.{settings_in_rule}
@@ -11,8 +10,6 @@ use Rattle.command.specs.Carry.{settings_after, transfer_after}
 use Rattle.command.specs.Response.{acknowledged, response}
 use Rattle.command.specs.declared.settings.Settings.{Settings}
 use Rattle.command.specs.declared.judgement.Judgement.{Judgement}
-use Rattle.command.specs.declared.player.Offence.{Offence}
-use Rattle.command.specs.declared.player.Offence.TheVariants.{At, Nothing}
 
 -- the settings, and one open transfer or none
 pub record State : Type 0 where
@@ -76,24 +73,24 @@ is_nil (x ∷ xs) = false
 
 -- the first packet that is not acknowledged, the first of these packets being at this place
 unfoldable pub not_acknowledged : ℕ → State → List (List ℕ) → Option ℕ
-not_acknowledged at a [] = none
-not_acknowledged at a (p ∷ ps) = cond (acknowledged (judged a p)) (not_acknowledged (at + length p) (next a p) ps) (some at)
+not_acknowledged at a [] = None
+not_acknowledged at a (p ∷ ps) = cond (acknowledged (judged a p)) (not_acknowledged (at + length p) (next a p) ps) (Some at)
 
 -- the packet that opened the transfer that is left open. A packet that comes while none is open opens the one that is open after it; the transfer that is open
 -- before these packets, if there is one, was opened at the place `opener`.
 unfoldable pub left_open : ℕ → ℕ → State → List (List ℕ) → Option ℕ
-left_open opener at a [] = cond (is_open a.transfer) (some opener) none
+left_open opener at a [] = cond (is_open a.transfer) (Some opener) None
 left_open opener at a (p ∷ ps) = left_open (cond (is_open a.transfer) opener at) (at + length p) (next a p) ps
 
 -- the unfinished packet: it begins where the whole packets end
 unfoldable pub unfinished : List ℕ → Option ℕ
-unfinished b = cond (is_nil (half_sent b)) none (some (bytes_in (packets b)))
+unfinished b = cond (is_nil (half_sent b)) None (Some (bytes_in (packets b)))
 
 -- the earlier of two places
 abbrev pub earlier : Option ℕ → Option ℕ → Option ℕ
-earlier none o = o
-earlier (some m) none = some m
-earlier (some m) (some n) = some (min m n)
+earlier None o = o
+earlier (Some m) None = Some m
+earlier (Some m) (Some n) = Some (min m n)
 
 -- the earliest of the three
 unfoldable pub offence : Settings → List ℕ → Option ℕ
@@ -130,9 +127,4 @@ abbrev pub end_settings : Settings → List ℕ → Settings
 end_settings s b = cond (settings_in_rule s) (play s b).settings s
 
 abbrev pub end_offence : Settings → List ℕ → Option ℕ
-end_offence s b = cond (settings_in_rule s) (offence s b) (some 0)
-
--- the place that its answer names
-abbrev pub place_of : Offence → Option ℕ
-place_of (At n) = some n
-place_of Nothing = none
+end_offence s b = cond (settings_in_rule s) (offence s b) (Some 0)

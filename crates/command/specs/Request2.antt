@@ -1,7 +1,6 @@
 -- Request 2: "04 00 may ask for at most 1 plus the whole part of 95/depth. Settings, refusal 3, the encoder and the report checker follow the new rule, for old reports
 -- too. Refusals: 03 for a larger count, in its old place." Of reports it is crates/report/specs/Request2.antt.
-use Rattle.std.specs.Prelude.{ℕ, ◌*◌, ◌<◌, ◌≤◌, ◌≡◌, ◌↔◌, ◌⊎◌, true, false, ◌&&◌, List, [], ◌∷◌, map, length, take, replicate}
-use Rattle.std.proofs.Math.Option.{some}
+use Rattle.std.specs.Prelude.{ℕ, ◌*◌, ◌<◌, ◌≤◌, ◌≡◌, ◌↔◌, ◌⊎◌, true, false, ◌&&◌, List, [], ◌∷◌, map, length, take, replicate, Some}
 use Rattle.packet.specs.Answer.{Answers}
 use Rattle.packet.specs.Packet.{host_write}
 use Rattle.command.specs.Table.{layout, size_of}
@@ -66,6 +65,6 @@ pub record Request2 : Type 0 where
   -- "refusal 3": a controller whose settings have more is refused by the receive call, and settings that have more by the standard list; they are not played
   pub receive : (c : Controller) (input out : List ℕ) → 64 ≤ length out → TooMany c.settings.sequence → receive_call c input out ≡ refused 3 c out
   pub list : (s : Settings) (out : List ℕ) → 128 ≤ length out → TooMany s.sequence → list_call s out ≡ encoder.refused 3 out
-  pub play : (s : Settings) (b : List ℕ) → TooMany s.sequence → (end_settings s b ≡ s) × (end_offence s b ≡ some 0)
+  pub play : (s : Settings) (b : List ℕ) → TooMany s.sequence → (end_settings s b ≡ s) × (end_offence s b ≡ Some 0)
   -- "the encoder": refusal 2
   pub encode : (q : Sequence) (out : List ℕ) → 64 ≤ length out → TooMany q → encode_call (value.PatternSequence q) out ≡ encoder.refused 2 out

@@ -4,9 +4,8 @@
 -- under. Refusals: 5 for judging bytes that aren't exactly one packet; for carrying out, 2 for a judgement without error codes that no packet draws from a controller
 -- that 3 lets pass and that has what it keeps, then 4 exactly when a kept item differs; nothing changes; all after 1 and 3." The contracts of `judge_packet` and
 -- `carry_out` are judge_call and carry_call. Proved in proofs/Request5.antt.
-use Rattle.std.specs.Prelude.{ℕ, ◌<◌, ◌≤◌, ◌≡◌, ◌↔◌, ◌⊎◌, true, false, length, take}
+use Rattle.std.specs.Prelude.{ℕ, ◌<◌, ◌≤◌, ◌≡◌, ◌↔◌, ◌⊎◌, true, false, length, take, None, Some}
 use mathlib.Core.List.{List, [], ◌∷◌, ◌++◌, map, Memᴰ}
-use Rattle.std.proofs.Math.Option.{none, some}
 use Rattle.packet.specs.Answer.{Answers}
 use Rattle.packet.specs.Number.{Bytes}
 use Rattle.packet.specs.Packet.{cmd1_of, cmd2_of, packet_of, error, whole}
@@ -47,7 +46,7 @@ pub record Drawn (j : JudgementRecord) : Type 0 where
   pub keeps : items_of controller ≡ items_kept j
   pub packet : List ℕ
   pub bytes : Bytes packet
-  pub draws : judge_call controller packet j ≡ record { refusal = none; judgement = j }
+  pub draws : judge_call controller packet j ≡ record { refusal = None; judgement = j }
 
 -- what a judgement says of the packet p, by document 01's judgement of it on the controller c: its numbers,
 pub record Says (c : Controller) (p : List ℕ) (j : JudgementRecord) : Type 0 where
@@ -101,15 +100,15 @@ pub record SendsCodes (c : Controller) (j : JudgementRecord) (out : List ℕ) (r
 
 pub record Request5 : Type 0 where
   -- The judge call. 3 exactly when the controller is out of rule,
-  pub rule : (c : Controller) (b : List ℕ) (lent : JudgementRecord) → ((judge_call c b lent).refusal ≡ some 3) ↔ OutOfRule c
+  pub rule : (c : Controller) (b : List ℕ) (lent : JudgementRecord) → ((judge_call c b lent).refusal ≡ Some 3) ↔ OutOfRule c
   -- then 5 exactly when the bytes are not exactly one packet;
-  pub one : (c : Controller) (b : List ℕ) (lent : JudgementRecord) → ((judge_call c b lent).refusal ≡ some 5) ↔ ((OutOfRule c → ⊥) × (OnePacket b → ⊥))
+  pub one : (c : Controller) (b : List ℕ) (lent : JudgementRecord) → ((judge_call c b lent).refusal ≡ Some 5) ↔ ((OutOfRule c → ⊥) × (OnePacket b → ⊥))
   -- no other number, and a refusal touches nothing lent
-  pub refuses : (c : Controller) (b : List ℕ) (lent : JudgementRecord) (n : ℕ) → (judge_call c b lent).refusal ≡ some n
+  pub refuses : (c : Controller) (b : List ℕ) (lent : JudgementRecord) (n : ℕ) → (judge_call c b lent).refusal ≡ Some n
       → ((n ≡ 3) ⊎ (n ≡ 5)) × (judgement_of c b lent ≡ lent)
   -- else the judgement
   pub says : (c : Controller) (p : List ℕ) (lent : JudgementRecord) → Ready c → OnePacket p
-      → ((judge_call c p lent).refusal ≡ none) × Says c p (judgement_of c p lent)
+      → ((judge_call c p lent).refusal ≡ None) × Says c p (judgement_of c p lent)
   -- the codes of a record are the bits of its number
   pub bits : (m n : ℕ) → Memᴰ n (codes_of (codes_told m)) ↔ ((1 ≤ n) × (n ≤ 11) × (has_bit m n ≡ true))
   -- "it keeps the mode, open command and held data it was made under"

@@ -1,8 +1,6 @@
 -- The response that a judgement draws.
-use Rattle.std.specs.Prelude.{ℕ, Bool, List, [], eqb}
-use Rattle.std.proofs.Math.Option.{Option, none}
+use Rattle.std.specs.Prelude.{ℕ, Bool, List, [], eqb, Option, None}
 use Rattle.packet.specs.Packet.{packet_of, error, write_response, read_response, whole}
-use Rattle.command.specs.Rules.{byte_of}
 use Rattle.command.specs.Value.{data_of}
 use Rattle.command.specs.Faults.{Arrived, codes_of}
 use Rattle.command.specs.declared.settings.Settings.{Settings}
@@ -43,7 +41,7 @@ codes_in (Read c) = []
 
 -- the byte that it names: "with code 03 the receive call reports it beside the response, whose bytes stay the same" (request 4)
 abbrev pub wrong_in : Judgement → Option ℕ
-wrong_in (Error k) = byte_of k.wrong
-wrong_in (Hold c) = none
-wrong_in (Write v) = none
-wrong_in (Read c) = none
+wrong_in (Error k) = k.wrong
+wrong_in (Hold c) = None
+wrong_in (Write v) = None
+wrong_in (Read c) = None

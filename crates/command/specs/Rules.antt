@@ -1,7 +1,6 @@
 -- The column "allowed" of the table of commands, field by field: which values are allowed, and which byte is wrong. And when the settings keep the rules, as
 -- refusal 3 asks.
-use Rattle.std.specs.Prelude.{ℕ, ◌+◌, ◌/◌, Bool, true, false, cond, not, ◌&&◌, ◌||◌, List, [], ◌∷◌, eqb, leb, get_or}
-use Rattle.std.proofs.Math.Option.{Option, none, some}
+use Rattle.std.specs.Prelude.{ℕ, ◌+◌, ◌/◌, Bool, true, false, cond, not, ◌&&◌, ◌||◌, List, [], ◌∷◌, eqb, leb, get_or, Option, None, Some}
 use Rattle.command.specs.Table.{table, same}
 use Rattle.command.specs.Fields.{current_from, colour_from, setting_from, input_from, video_from, sequence_from}
 use Rattle.command.specs.Settings.{values_of}
@@ -14,8 +13,6 @@ use Rattle.command.specs.declared.settings.VideoInput.{VideoInput}
 use Rattle.command.specs.declared.settings.VideoMode.{VideoMode}
 use Rattle.command.specs.declared.settings.PatternSequence.{PatternSequence}
 use Rattle.command.specs.declared.settings.Settings.{Settings}
-use Rattle.command.specs.declared.rules.WrongByte.{WrongByte}
-use Rattle.command.specs.declared.rules.WrongByte.TheVariants.{At, Nothing}
 
 -- n is one of these
 abbrev pub one_of : ℕ → List ℕ → Bool
@@ -145,22 +142,17 @@ all_valid [] = true
 all_valid (f ∷ fs) = f.valid && all_valid fs
 
 -- the first byte of the first of them that is not
-abbrev pub first_wrong : List Field → WrongByte
-first_wrong [] = Nothing
-first_wrong (f ∷ fs) = cond f.valid (first_wrong fs) (At f.byte)
+abbrev pub first_wrong : List Field → Option ℕ
+first_wrong [] = None
+first_wrong (f ∷ fs) = cond f.valid (first_wrong fs) (Some f.byte)
 
 -- the values of a command are allowed
 abbrev pub allowed : Command → List ℕ → Bool
 allowed c v = all_valid (fields_of c v)
 
 -- "the first data byte, counted from 0, of the first field not allowed, in layout order" (request 4), or none
-abbrev pub wrong_byte : Command → List ℕ → WrongByte
+abbrev pub wrong_byte : Command → List ℕ → Option ℕ
 wrong_byte c v = first_wrong (fields_of c v)
-
--- the number of that byte, where there is one
-abbrev pub byte_of : WrongByte → Option ℕ
-byte_of (At n) = some n
-byte_of Nothing = none
 
 -- "Run 1 needs display mode 4. Run 0 is allowed always." The command c with the values v is blocked in this mode.
 unfoldable pub blocked : Command → List ℕ → ℕ → Bool

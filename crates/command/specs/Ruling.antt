@@ -1,7 +1,6 @@
 -- A judgement as it is handed out (request 5): a record of numbers and one array. It says what a packet draws, and keeps what it was judged under. Every record
 -- means something, whatever its numbers are.
-use Rattle.std.specs.Prelude.{ℕ, ◌+◌, ◌^◌, ◌/◌, ◌%◌, Bool, true, false, cond, not, ◌&&◌, ◌||◌, List, [], ◌∷◌, ◌++◌, eqb, leb, length, take, drop}
-use Rattle.std.proofs.Math.Option.{Option, none, some}
+use Rattle.std.specs.Prelude.{ℕ, ◌+◌, ◌^◌, ◌/◌, ◌%◌, Bool, true, false, cond, not, ◌&&◌, ◌||◌, List, [], ◌∷◌, ◌++◌, eqb, leb, length, take, drop, Option, None, Some}
 use Rattle.packet.specs.Packet.{cmd1_of, cmd2_of, payload}
 use Rattle.command.specs.Table.{command_of, layout, size_of, readable}
 use Rattle.command.specs.Rules.{allowed, blocked}
@@ -13,10 +12,7 @@ use Rattle.command.specs.Player.{is_nil}
 use Rattle.command.specs.Controller.{transfer_of, held_in, transfer_in, state_of, transfer_in_rule}
 use Rattle.command.specs.declared.table.Command.{Command}
 use Rattle.command.specs.declared.table.Command.TheVariants.{DisplayMode}
-use Rattle.command.specs.declared.table.Found.{Found}
-use Rattle.command.specs.declared.table.Found.TheVariants.{Known, Unknown}
 use Rattle.command.specs.declared.faults.Codes.{Codes}
-use Rattle.command.specs.declared.rules.WrongByte.TheVariants.{Nothing}
 use Rattle.command.specs.declared.judgement.Judgement.{Judgement}
 use Rattle.command.specs.declared.judgement.Judgement.TheVariants.{Error, Hold, Write, Read}
 use Rattle.command.specs.declared.transfer.TransferState.{TransferState}
@@ -65,7 +61,7 @@ codes_told m =
       checksum = has_bit m 0x09;
       format = has_bit m 0x0A;
       continuation = has_bit m 0x0B;
-      wrong = Nothing;
+      wrong = None;
     }
 
 abbrev pub mask_in : Judgement → ℕ
@@ -95,8 +91,8 @@ abbrev pub no_wrong : ℕ
 no_wrong = 0xFFFF
 
 abbrev pub wrong_told : Option ℕ → ℕ
-wrong_told none = no_wrong
-wrong_told (some n) = n
+wrong_told None = no_wrong
+wrong_told (Some n) = n
 
 -- the data that it holds: those that were held, and behind them those that the packet brings, where it is accepted
 abbrev pub data_for : List ℕ → List ℕ → Judgement → List ℕ
@@ -146,13 +142,13 @@ abbrev pub brought_in : JudgementRecord → List ℕ
 brought_in j = drop (held_in (transfer_kept j)) (joined_in j)
 
 -- its command, by the packet's CMD1 and CMD2
-abbrev pub command_for : JudgementRecord → Found
+abbrev pub command_for : JudgementRecord → Option Command
 command_for j = command_of j.ruling.cmd1 j.ruling.cmd2
 
 -- the judgement: an error where there is a code, or one that says how its command was accepted; else "error" with no code at all
-abbrev pub accepted_as : Found → JudgementRecord → Judgement
-accepted_as Unknown j = Error (codes_told 0)
-accepted_as (Known c) j =
+abbrev pub accepted_as : Option Command → JudgementRecord → Judgement
+accepted_as None j = Error (codes_told 0)
+accepted_as (Some c) j =
     cond (eqb j.ruling.accepts holds) (Hold c)
     (cond (eqb j.ruling.accepts writes) (Write (value_from c (split_all (layout c) (joined_in j))))
     (cond (eqb j.ruling.accepts reads) (Read c) (Error (codes_told 0))))
@@ -173,7 +169,7 @@ joined_in_rule j = leb (held_in (transfer_kept j)) j.ruling.count && leb j.rulin
 
 -- the command is the open one, or none is open
 abbrev pub in_order : Command → JudgementRecord → Bool
-in_order c j = not (is_open (open_kept j)) || open_for (Known c) (open_kept j)
+in_order c j = not (is_open (open_kept j)) || open_for (Some c) (open_kept j)
 
 -- for a write the data have the command's size, are allowed and not blocked in the kept mode
 abbrev pub writable : Command → ℕ → List ℕ → Bool
@@ -184,9 +180,9 @@ writable c mode d =
 abbrev pub asks_only : Command → JudgementRecord → Bool
 asks_only c j = not (is_open (open_kept j)) && readable c && eqb j.ruling.count 0
 
-abbrev pub acceptable : Found → JudgementRecord → Bool
-acceptable Unknown j = false
-acceptable (Known c) j =
+abbrev pub acceptable : Option Command → JudgementRecord → Bool
+acceptable None j = false
+acceptable (Some c) j =
     cond (eqb j.ruling.accepts holds) (in_order c j)
     (cond (eqb j.ruling.accepts writes) (in_order c j && writable c j.ruling.kept.mode (joined_in j))
     (cond (eqb j.ruling.accepts reads) (asks_only c j) false))
@@ -220,7 +216,7 @@ abbrev pub items_in : ℕ → TransferState → List ℕ → Items
 items_in mode t buffer =
     record {
       mode = mode;
-      command = cond (eqb t.active 0) none (some (t.cmd1, t.cmd2));
+      command = cond (eqb t.active 0) None (Some (t.cmd1, t.cmd2));
       count = held_in t;
       held = take (held_in t) buffer;
     }
@@ -234,10 +230,10 @@ abbrev pub items_kept : JudgementRecord → Items
 items_kept j = items_in j.ruling.kept.mode (transfer_kept j) j.joined
 
 abbrev pub same_command : Option (ℕ × ℕ) → Option (ℕ × ℕ) → Bool
-same_command none none = true
-same_command none (some d) = false
-same_command (some c) none = false
-same_command (some c) (some d) = eqb c.0 d.0 && eqb c.1 d.1
+same_command None None = true
+same_command None (Some d) = false
+same_command (Some c) None = false
+same_command (Some c) (Some d) = eqb c.0 d.0 && eqb c.1 d.1
 
 unfoldable pub same_items : Items → Items → Bool
 same_items a b = eqb a.mode b.mode && same_command a.command b.command && eqb a.count b.count && same_list a.held b.held

@@ -1,6 +1,5 @@
 -- A stream of bytes sent to a head, call after call, "however the byte stream was cut".
-use Rattle.std.specs.Prelude.{ℕ, ◌≡◌, true, List, map, length}
-use Rattle.std.proofs.Math.Option.{Option, none, some}
+use Rattle.std.specs.Prelude.{ℕ, ◌≡◌, true, List, map, length, Option, None, Some}
 use Rattle.packet.specs.Answer.{taken_of, response_of}
 use Rattle.packet.specs.Calls.{Call, Served, Sending as SendingWith, sent}
 use Rattle.command.specs.Controller.{in_rule}
@@ -13,8 +12,8 @@ pub record Reply : Type 0 where
   pub wrong : Option ℕ
 
 abbrev pub reply_with : Option ℕ → Option (List ℕ) → Option Reply
-reply_with w none = none
-reply_with w (some m) = some (record { response = m; wrong = w })
+reply_with w None = None
+reply_with w (Some m) = Some (record { response = m; wrong = w })
 
 -- what a receive call shows: how many bytes it took, and what the packet gave that it completed
 abbrev pub shown : After → Call Controller Reply

@@ -1,10 +1,8 @@
 -- The table of commands: their bytes and the layout of their data (document 01, "Commands and factory values").
-use Rattle.std.specs.Prelude.{ℕ, Bool, true, false, cond, not, ◌&&◌, List, [], ◌∷◌, eqb}
+use Rattle.std.specs.Prelude.{Option, None, Some, ℕ, Bool, true, false, cond, not, ◌&&◌, List, [], ◌∷◌, eqb}
 use Rattle.packet.specs.Packet.{sum}
 use Rattle.command.specs.declared.table.Command.{Command}
 use Rattle.command.specs.declared.table.Command.TheVariants.{DisplayMode, TestPattern, LedCurrent, StaticColour, DisplaySetting, VideoInput, VideoMode, PatternSequence, SequenceRun}
-use Rattle.command.specs.declared.table.Found.{Found}
-use Rattle.command.specs.declared.table.Found.TheVariants.{Known, Unknown}
 
 -- the nine commands in table order
 abbrev pub table : List Command
@@ -39,12 +37,12 @@ abbrev pub has_code : ℕ → ℕ → Command → Bool
 has_code cmd1 cmd2 c = eqb cmd1 (cmd1_for c) && eqb cmd2 (cmd2_for c)
 
 -- the first of the commands that has these bytes
-unfoldable pub find : ℕ → ℕ → List Command → Found
-find cmd1 cmd2 [] = Unknown
-find cmd1 cmd2 (c ∷ cs) = let later = find cmd1 cmd2 cs in cond (has_code cmd1 cmd2 c) (Known c) later
+unfoldable pub find : ℕ → ℕ → List Command → Option Command
+find cmd1 cmd2 [] = None
+find cmd1 cmd2 (c ∷ cs) = let later = find cmd1 cmd2 cs in cond (has_code cmd1 cmd2 c) (Some c) later
 
 -- the command of these bytes, if it is in the table
-unfoldable pub command_of : ℕ → ℕ → Found
+unfoldable pub command_of : ℕ → ℕ → Option Command
 command_of cmd1 cmd2 = find cmd1 cmd2 table
 
 -- the same command
@@ -72,11 +70,11 @@ abbrev pub readable : Command → Bool
 readable c = not (same c StaticColour)
 
 -- the command is in the table
-abbrev pub is_known : Found → Bool
-is_known Unknown = false
-is_known (Known c) = true
+abbrev pub is_known : Option Command → Bool
+is_known None = false
+is_known (Some c) = true
 
 -- it is in the table and can be read
-abbrev pub can_read : Found → Bool
-can_read Unknown = false
-can_read (Known c) = readable c
+abbrev pub can_read : Option Command → Bool
+can_read None = false
+can_read (Some c) = readable c

@@ -1,9 +1,7 @@
 -- The open transfer of a head.
-use Rattle.std.specs.Prelude.{ℕ, Bool, true, false, List, []}
+use Rattle.std.specs.Prelude.{Option, None, Some, ℕ, Bool, true, false, List, []}
 use Rattle.command.specs.Table.{same}
 use Rattle.command.specs.declared.table.Command.{Command}
-use Rattle.command.specs.declared.table.Found.{Found}
-use Rattle.command.specs.declared.table.Found.TheVariants.{Known, Unknown}
 
 -- one open transfer, its command and held data, or none
 pub data Transfer : Type 0 where
@@ -20,7 +18,7 @@ held Closed = []
 held (Opened c d) = d
 
 -- a transfer is open for this command
-abbrev pub open_for : Found → Transfer → Bool
-open_for Unknown t = false
-open_for (Known c) Closed = false
-open_for (Known c) (Opened d h) = same c d
+abbrev pub open_for : Option Command → Transfer → Bool
+open_for None t = false
+open_for (Some c) Closed = false
+open_for (Some c) (Opened d h) = same c d

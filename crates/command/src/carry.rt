@@ -10,6 +10,7 @@ use crate::controller::Registers;
 use crate::judgement::Judgement;
 use crate::response::respond;
 use crate::settings::{Settings, stored};
+use crate::table::Code;
 use crate::transfer::{HOLD, TransferState};
 
 // The settings afterwards: only a write changes them.
@@ -22,14 +23,15 @@ pub(crate) fn settings_after(s: Settings, j: Judgement) -> Settings
     }
 }
 
-// The transfer afterwards. The payload of a part joins the held bytes, with which `buffer` begins.
+// The transfer afterwards. The payload of a part joins the held bytes, with which `buffer` begins: an array of
+// its own beside the numbers, since it stays where the caller lent it and the numbers are few.
 pub(crate) fn transfer_after(
     t: TransferState,
     buffer: &mut [u8; HOLD],
     payload: &[u8],
     j: Judgement,
 ) -> TransferState
-    requires { (transfer_in_rule t ≡ true) × (length payload.now < 65536) }
+    requires { transfer_in_rule t ≡ true }
     ensures { (result ≡ transfer_state_after t payload.now j)
         × (buffer.new ≡ buffer_after t buffer.old payload.now j) }
 {
@@ -51,38 +53,29 @@ pub(crate) fn transfer_after(
     }
 }
 
-// What a judgement leaves that was carried out, and how long the response is.
-#[derive(Drop)]
-pub(crate) struct Carried {
-    pub(crate) settings: Settings,
-    pub(crate) registers: Registers,
-    pub(crate) length: usize,
-}
-
-// Carries out the judgement of a packet with this CMD1, CMD2 and payload.
+// Carries out the judgement of a packet with this CMD1 and CMD2 and this payload, and says how long the response is.
+// The output stays a slice, and its room a clause: the promise is about each byte of what the caller lends.
+// Settings, registers and buffer come apart, since the payload may lie in the same controller.
 pub(crate) fn carry(
-    settings: Settings,
-    r: Registers,
+    settings: &mut Settings,
+    registers: &mut Registers,
     buffer: &mut [u8; HOLD],
-    cmd1: u8,
-    cmd2: u8,
+    code: Code,
     payload: &[u8],
     j: Judgement,
     out: &mut [u8],
-) -> Carried
-    requires { (transfer_in_rule (transfer_of r) ≡ true) × (length payload.now ≤ 1024) × (64 ≤ length out.old) }
-    ensures { (result.settings ≡ settings_after_of settings j)
-        × (result.registers ≡ with_transfer r (transfer_state_after (transfer_of r) payload.now j))
-        × (buffer.new ≡ buffer_after (transfer_of r) buffer.old payload.now j)
-        × (result.length ≡ length (response_to cmd1 cmd2 settings j))
-        × (out.new ≡ written (response_to cmd1 cmd2 settings j) out.old) }
+) -> usize
+    requires rule { transfer_in_rule (transfer_of registers.old) ≡ true }
+    requires held { length payload.now ≤ 1024 }
+    requires room { 64 ≤ length out.old }
+    ensures settings { settings.new ≡ settings_after_of settings.old j }
+    ensures registers { registers.new ≡ with_transfer registers.old (transfer_state_after (transfer_of registers.old) payload.now j) }
+    ensures buffer { buffer.new ≡ buffer_after (transfer_of registers.old) buffer.old payload.now j }
+    ensures length { result ≡ length (response_to code.cmd1 code.cmd2 settings.old j) }
+    ensures output { out.new ≡ written (response_to code.cmd1 code.cmd2 settings.old j) out.old }
 {
-    let length = respond(out, settings, cmd1, cmd2, j);
-    let after = settings_after(settings, j);
-    let transfer = transfer_after(r.transfer(), buffer, payload, j);
-    Carried {
-        settings: after,
-        registers: r.with_transfer(transfer),
-        length,
-    }
+    let length = respond(out, *settings, code, j);
+    *settings = settings_after(*settings, j);
+    registers.set_transfer(transfer_after(registers.transfer(), buffer, payload, j));
+    length
 }

@@ -1,7 +1,7 @@
 // The controller: the settings, the open transfer and the packet that is coming in. Firmware lends
 // it, so it is made of numbers alone and means something whatever they are.
 ghost use Rattle.std.specs.Prelude.{◌≡◌, ◌<◌};
-ghost use Rattle.command.specs.Controller.{fresh as fresh_of, transfer_of, parts_in_rule};
+ghost use Rattle.command.specs.Controller.{fresh as fresh_of, transfer_of, in_rule};
 ghost use Rattle.command.specs.Inner.{with_transfer};
 
 use crate::rules::settings_in_rule;
@@ -12,7 +12,7 @@ use packet::HEADER;
 // The packet that is coming in, and the open transfer, but for their bytes. Each field is as wide as
 // the room up to the next one: a record that is lent has no holes.
 #[repr(C)]
-#[derive(Clone, Copy)]
+#[derive(Clone, Copy, PartialEq, Eq)]
 pub struct Registers {
     // How many bytes of the packet have come in.
     pub received: u32,
@@ -41,22 +41,20 @@ impl Registers {
         }
     }
 
-    // The same packet, and this transfer.
-    pub(crate) fn with_transfer(self, t: TransferState) -> Registers
+    // Puts this transfer in place of the open one. The packet that is coming in stays.
+    pub(crate) fn set_transfer(&mut self, t: TransferState)
         requires { t.held < 65536 }
-        ensures { result ≡ with_transfer self t }
+        ensures { self.new ≡ with_transfer self.old t }
     {
-        let mut r = self;
-        r.held = t.held as u16;
-        r.active = t.active;
-        r.cmd1 = t.cmd1;
-        r.cmd2 = t.cmd2;
-        r
+        self.held = t.held as u16;
+        self.active = t.active;
+        self.cmd1 = t.cmd1;
+        self.cmd2 = t.cmd2;
     }
 }
 
 #[repr(C)]
-#[derive(Clone, Copy)]
+#[derive(Clone, Copy, PartialEq, Eq)]
 pub struct Controller {
     pub settings: Settings,
     pub registers: Registers,
@@ -89,15 +87,15 @@ impl Controller {
     {
         Controller::FRESH
     }
-}
 
-// What refusal 3 lets pass: it does not look at the arrays.
-pub(crate) fn in_rule(s: Settings, r: Registers) -> bool
-    ensures { result ≡ parts_in_rule s r }
-{
-    let header = r.header;
-    let settings = settings_in_rule(s);
-    let transfer = r.transfer().in_rule();
-    let unfinished = packet::packet_in_rule(header, r.received as usize);
-    settings & transfer & unfinished
+    // What refusal 3 lets pass: it does not look at the arrays.
+    #[tactic(auto, unfolding(crate::specs::Controller::parts_in_rule, crate::specs::Controller::transfer_in_rule))]
+    pub(crate) fn in_rule(&self) -> bool
+        ensures { result ≡ in_rule self.now }
+    {
+        let r = self.registers;
+        settings_in_rule(self.settings)
+            && r.transfer().in_rule()
+            && packet::packet_in_rule(r.header, r.received as usize)
+    }
 }

@@ -12,29 +12,24 @@ use crate::value::{Value, data_of};
 // The standard list refuses an output shorter than this.
 pub const LIST_OUTPUT: usize = 128;
 
-// How many commands the table has.
-const COMMANDS: usize = 9;
-
-// What the two calls answer.
-#[derive(Clone, Copy)]
-pub enum Encoded {
-    // How many bytes stand at the output's start.
-    Length(usize),
-    // Refusal 1: the output is shorter than 64 bytes, or 128 for the list.
-    ShortOutput,
-    // Refusal 2: a value is not allowed.
-    NotAllowed,
-    // Refusal 3: the settings are out of rule.
-    OutOfRule,
+// Why a call is refused; each refusal has its number.
+#[derive(Clone, Copy, PartialEq, Eq)]
+pub enum EncodeRefusal {
+    // The output is shorter than 64 bytes, or 128 for the list.
+    ShortOutput = 1,
+    // A value is not allowed.
+    NotAllowed = 2,
+    // The settings are out of rule.
+    OutOfRule = 3,
 }
 
 // The whole-packet write of a value.
+#[tactic(auto, unfolding(crate::specs::Encoder::encoded, crate::specs::Encoder::write_packet))]
 fn put(out: &mut [u8], v: Value) -> usize
     requires { 24 ≤ length out.old }
     ensures { (result ≡ length (encoded v)) × (out.new ≡ written (encoded v) out.old) }
 {
-    let code = v.command().code();
-    emit(out, packet::HOST_WRITE, code.cmd1, code.cmd2, data_of(v))
+    emit(out, packet::HOST_WRITE, v.command().code(), data_of(v))
 }
 
 // The writes one after the other.
@@ -43,38 +38,35 @@ fn put_list(out: &mut [u8], s: Settings) -> usize
     ensures { (result ≡ length (standard_list s)) × (out.new ≡ written (standard_list s) out.old) }
 {
     let mut at: usize = 0;
-    let mut k: usize = 0;
-    while k < COMMANDS {
-        let v = value_of(s, Command::at(k));
-        at += put(&mut out[at..], v);
-        k += 1;
+    for c in Command::TABLE {
+        at += put(&mut out[at..], value_of(s, c));
     }
     at
 }
 
-// One whole write packet. Run 1 is allowed here.
-pub fn encode(v: Value, out: &mut [u8]) -> Encoded
+// One whole write packet at the start of the output, and how long it is. Run 1 is allowed here.
+pub fn encode(v: Value, out: &mut [u8]) -> Result<usize, EncodeRefusal>
     ensures { (outcome_of result ≡ (encode_call v out.old).answer) × (out.new ≡ (encode_call v out.old).output) }
 {
     if out.len() < OUTPUT {
-        return Encoded::ShortOutput;
+        return Err(EncodeRefusal::ShortOutput);
     }
     if !allowed(v) {
-        return Encoded::NotAllowed;
+        return Err(EncodeRefusal::NotAllowed);
     }
-    Encoded::Length(put(out, v))
+    Ok(put(out, v))
 }
 
 // One whole-packet write for each command, in table order: played from factory values they bring
 // a head to these settings.
-pub fn standard_list(s: Settings, out: &mut [u8]) -> Encoded
+pub fn standard_list(s: Settings, out: &mut [u8]) -> Result<usize, EncodeRefusal>
     ensures { (outcome_of result ≡ (list_call s out.old).answer) × (out.new ≡ (list_call s out.old).output) }
 {
     if out.len() < LIST_OUTPUT {
-        return Encoded::ShortOutput;
+        return Err(EncodeRefusal::ShortOutput);
     }
     if !settings_in_rule(s) {
-        return Encoded::OutOfRule;
+        return Err(EncodeRefusal::OutOfRule);
     }
-    Encoded::Length(put_list(out, s))
+    Ok(put_list(out, s))
 }

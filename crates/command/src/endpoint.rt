@@ -1,178 +1,116 @@
 // The receive call: it takes bytes until the input ends or one packet is complete, and answers that
 // packet.
-ghost use Rattle.std.specs.Prelude.{◌≡◌, true, ◌≤◌, min, length};
+ghost use Rattle.std.specs.Prelude.{◌≡◌, true, ◌≤◌, length};
 ghost use Rattle.packet.specs.Answer.{outcome_of};
-ghost use Rattle.command.specs.Controller.{transfer_of, transfer_in_rule, parts_in_rule};
-ghost use Rattle.command.specs.Rules.{byte_of};
+ghost use Rattle.command.specs.Controller.{transfer_of, transfer_in_rule};
 ghost use Rattle.command.specs.Inner.{settled};
-ghost use Rattle.command.specs.Endpoint.{receive_call};
-ghost use Rattle.command.specs.Lent.{controller_of, after_of, stored_exactly};
+ghost use Rattle.command.specs.Endpoint.{receive_call, after_of};
 
 use crate::carry::carry;
-use crate::controller::{Controller, Registers, in_rule};
+use crate::controller::Controller;
 use crate::judgement::judge;
 use crate::output::OUTPUT;
-use crate::rules::WrongByte;
-use crate::settings::Settings;
+use crate::table::Code;
 use crate::transfer::HOLD;
-use packet::Answer;
+use packet::{Progress, Refusal};
 
-// What a call answers, and the settings and the registers that it leaves.
+// What a call answers.
 #[derive(Clone, Copy)]
-pub struct Served {
-    pub settings: Settings,
-    pub registers: Registers,
-    // Whether the settings are to be stored: a packet was complete. Otherwise they are as they were.
-    pub stored: bool,
-    pub answer: Answer,
-    // With code 03, the byte that is wrong.
-    pub wrong: WrongByte,
+pub struct Reply {
+    pub answer: Result<Progress, Refusal>,
+    // Where the packet drew code 03, the byte of its data, in a transfer of the joined data, that is wrong.
+    pub wrong: Option<u8>,
 }
 
-// How many bytes of a payload of this length are in the hold.
-fn kept(size: usize) -> usize
-    ensures { result ≡ min size 1024 }
-{
-    if HOLD < size {
-        return HOLD;
-    }
-    size
-}
-
-// A complete packet is judged, and the judgement carried out.
-fn settle(
-    settings: Settings,
-    r: Registers,
-    buffer: &mut [u8; HOLD],
-    hold: &[u8],
-    right: bool,
-    taken: usize,
-    out: &mut [u8],
-) -> Served
-    requires { (transfer_in_rule (transfer_of r) ≡ true) × (length hold.now ≡ 1024) × (64 ≤ length out.old) }
-    ensures { (after_of result buffer.new hold.now out.new ≡ settled (controller_of settings r buffer.old hold.now) right taken out.old)
-        × stored_exactly result }
-{
-    let header = r.header;
-    let n = kept(packet::word(header[4], header[5]));
-    let payload = &hold[..n];
-    let j = judge(settings.mode, r.transfer(), header, right, buffer, payload);
-    let s = carry(settings, r, buffer, header[1], header[2], payload, j, out);
-    let after = s.settings;
-    let registers = s.registers;
-    Served {
-        settings: after,
-        registers,
-        stored: true,
-        answer: Answer::Answered {
-            taken,
-            length: s.length,
-        },
-        wrong: j.wrong(),
+impl Reply {
+    // An answer beside which no byte is wrong.
+    fn without_byte(answer: Result<Progress, Refusal>) -> Reply
+        ensures { (result.answer ≡ answer) × (result.wrong ≡ None) }
+    {
+        Reply {
+            answer,
+            wrong: None,
+        }
     }
 }
 
-// A call that is not refused.
-fn advance(
-    settings: Settings,
-    mut r: Registers,
-    buffer: &mut [u8; HOLD],
-    hold: &mut [u8; HOLD],
-    input: &[u8],
-    out: &mut [u8],
-) -> Served
-    requires { (parts_in_rule settings r ≡ true) × (64 ≤ length out.old) }
-    ensures { (after_of result buffer.new hold.new out.new ≡ receive_call (controller_of settings r buffer.old hold.old) input.now out.old)
-        × stored_exactly result }
-{
-    let mut header = r.header;
-    let t = packet::receive(
-        &mut header,
-        r.sum,
-        r.received as usize,
-        hold,
-        packet::CHECKSUM_FROM,
-        input,
-    );
-    r.header = header;
-    r.sum = t.sum;
-    r.received = t.received as u32;
-    if !t.complete {
-        return Served {
-            settings,
-            registers: r,
-            stored: false,
-            answer: Answer::Waiting(t.taken),
-            wrong: WrongByte::Nothing,
-        };
+impl Controller {
+    // A complete packet is judged, and the judgement carried out.
+    fn settle(&mut self, right: bool, taken: usize, out: &mut [u8]) -> Reply
+        requires rule { transfer_in_rule (transfer_of self.old.registers) ≡ true }
+        requires room { 64 ≤ length out.old }
+        ensures { after_of result self.new out.new ≡ settled self.old right taken out.old }
+    {
+        let header = self.registers.header;
+        // How many bytes of the payload are in the hold.
+        let n = packet::word(header[4], header[5]).min(HOLD);
+        let payload = &self.hold[..n];
+        let t = self.registers.transfer();
+        let j = judge(self.settings.mode, t, header, right, &self.buffer, payload);
+        let length = carry(
+            &mut self.settings,
+            &mut self.registers,
+            &mut self.buffer,
+            Code::new(header[1], header[2]),
+            payload,
+            j,
+            out,
+        );
+        Reply {
+            answer: Ok(Progress::Answered { taken, length }),
+            wrong: j.wrong(),
+        }
     }
-    settle(settings, r, buffer, hold, t.right, t.taken, out)
-}
 
-// The call where a controller's arrays are lent apart from the rest: it refuses, or goes on.
-pub fn serve(
-    settings: Settings,
-    r: Registers,
-    buffer: &mut [u8; HOLD],
-    hold: &mut [u8; HOLD],
-    input: &[u8],
-    out: &mut [u8],
-) -> Served
-    ensures { (after_of result buffer.new hold.new out.new ≡ receive_call (controller_of settings r buffer.old hold.old) input.now out.old)
-        × stored_exactly result }
-{
-    if out.len() < OUTPUT {
-        return Served {
-            settings,
-            registers: r,
-            stored: false,
-            answer: Answer::ShortOutput,
-            wrong: WrongByte::Nothing,
-        };
+    // The call. The arrays are changed where they stand.
+    pub fn receive(&mut self, input: &[u8], out: &mut [u8]) -> Reply
+        ensures { after_of result self.new out.new ≡ receive_call self.old input.now out.old }
+    {
+        if out.len() < OUTPUT {
+            return Reply::without_byte(Err(Refusal::ShortOutput));
+        }
+        if !self.in_rule() {
+            return Reply::without_byte(Err(Refusal::OutOfRule));
+        }
+        let r = &mut self.registers;
+        let t = packet::receive(
+            &mut r.header,
+            r.sum,
+            r.received as usize,
+            &mut self.hold,
+            packet::CHECKSUM_FROM,
+            input,
+        );
+        r.sum = t.sum;
+        r.received = t.received as u32;
+        match t.complete {
+            Some(right) => self.settle(right, t.taken, out),
+            None => Reply::without_byte(Ok(Progress::Waiting(t.taken))),
+        }
     }
-    if !in_rule(settings, r) {
-        return Served {
-            settings,
-            registers: r,
-            stored: false,
-            answer: Answer::OutOfRule,
-            wrong: WrongByte::Nothing,
-        };
-    }
-    advance(settings, r, buffer, hold, input, out)
 }
 
 // An answer, and the controller afterwards.
 #[derive(Clone, Copy)]
 pub struct Step {
     pub controller: Controller,
-    pub answer: Answer,
-    // Where the packet drew code 03, the byte of its data, in a transfer of the joined data, that is wrong.
-    pub wrong: WrongByte,
+    pub answer: Result<Progress, Refusal>,
+    // As a reply has it.
+    pub wrong: Option<u8>,
 }
 
 // The call on a controller by value.
 pub fn receive(c: Controller, input: &[u8], out: &mut [u8]) -> Step
     ensures { (outcome_of result.answer ≡ (receive_call c input.now out.old).answer)
-        × (byte_of result.wrong ≡ (receive_call c input.now out.old).wrong)
+        × (result.wrong ≡ (receive_call c input.now out.old).wrong)
         × (result.controller ≡ (receive_call c input.now out.old).controller)
         × (out.new ≡ (receive_call c input.now out.old).output) }
 {
-    let mut buffer = c.buffer;
-    let mut hold = c.hold;
-    let s = serve(c.settings, c.registers, &mut buffer, &mut hold, input, out);
-    let settings = s.settings;
-    let registers = s.registers;
-    let answer = s.answer;
-    let wrong = s.wrong;
+    let mut controller = c;
+    let reply = controller.receive(input, out);
     Step {
-        controller: Controller {
-            settings,
-            registers,
-            buffer,
-            hold,
-        },
-        answer,
-        wrong,
+        controller,
+        answer: reply.answer,
+        wrong: reply.wrong,
     }
 }

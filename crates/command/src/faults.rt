@@ -1,14 +1,12 @@
 // The error codes, and the first group of faults: 02, 04, 09 and 0B, which are reported together.
-ghost use Rattle.std.specs.Prelude.{◌≡◌, true, cond, ◌≤◌, ◌<◌, ◌^◌, ◌/◌, ◌%◌, eqb};
+ghost use Rattle.std.specs.Prelude.{◌≡◌, true, cond, Some, ◌≤◌, ◌<◌, ◌^◌, ◌/◌, ◌%◌, eqb};
 ghost use Rattle.packet.specs.Packet.{type_of, flags_of, payload_length};
 ghost use Rattle.command.specs.Inner.{is_open_in, open_for_in, faults_of, any_code};
 ghost use Rattle.command.specs.Controller.{held_in, transfer_in_rule};
-ghost use Rattle.command.specs.declared.rules.WrongByte.TheVariants as wrong;
 ghost use Rattle.command.specs.Faults.{wrong_command, too_long, wrong_order, any_fault, value_fault};
 ghost use Rattle.command.specs.Ruling.{mask_of, codes_told};
 
-use crate::rules::WrongByte;
-use crate::table::Found;
+use crate::table::Command;
 use crate::transfer::{HOLD, TransferState};
 use packet::HEADER;
 
@@ -37,7 +35,7 @@ pub(crate) struct Codes {
     pub failure: bool,
     // 02
     pub command: bool,
-    // 03
+    // 03. A flag beside `wrong`, since the codes of a judgement that is handed in have it with no byte.
     pub parameter: bool,
     // 04
     pub memory: bool,
@@ -55,12 +53,12 @@ pub(crate) struct Codes {
     pub format: bool,
     // 0B
     pub continuation: bool,
-    pub wrong: WrongByte,
+    pub wrong: Option<u8>,
 }
 
 impl Codes {
-    // 0A alone.
-    pub(crate) const SIZE: Codes = Codes {
+    // No code.
+    pub(crate) const NONE: Codes = Codes {
         failure: false,
         command: false,
         parameter: false,
@@ -70,44 +68,31 @@ impl Codes {
         precondition: false,
         object: false,
         checksum: false,
-        format: true,
+        format: false,
         continuation: false,
-        wrong: WrongByte::Nothing,
+        wrong: None,
+    };
+
+    // 0A alone.
+    pub(crate) const SIZE: Codes = Codes {
+        format: true,
+        ..Codes::NONE
     };
 
     // 07 alone.
     pub(crate) const MODE: Codes = Codes {
-        failure: false,
-        command: false,
-        parameter: false,
-        memory: false,
-        device: false,
-        busy: false,
         precondition: true,
-        object: false,
-        checksum: false,
-        format: false,
-        continuation: false,
-        wrong: WrongByte::Nothing,
+        ..Codes::NONE
     };
 
     // 03 alone, and the byte that it is about.
     pub(crate) fn value(byte: u8) -> Codes
-        ensures { result ≡ value_fault (wrong.At byte) }
+        ensures { result ≡ value_fault (Some byte) }
     {
         Codes {
-            failure: false,
-            command: false,
             parameter: true,
-            memory: false,
-            device: false,
-            busy: false,
-            precondition: false,
-            object: false,
-            checksum: false,
-            format: false,
-            continuation: false,
-            wrong: WrongByte::At(byte),
+            wrong: Some(byte),
+            ..Codes::NONE
         }
     }
 
@@ -146,7 +131,7 @@ impl Codes {
             checksum: has_bit(mask, 0x09),
             format: has_bit(mask, 0x0A),
             continuation: has_bit(mask, 0x0B),
-            wrong: WrongByte::Nothing,
+            wrong: None,
         }
     }
 
@@ -155,16 +140,16 @@ impl Codes {
         ensures { result ≡ any_code self }
     {
         self.failure
-            | self.command
-            | self.parameter
-            | self.memory
-            | self.device
-            | self.busy
-            | self.precondition
-            | self.object
-            | self.checksum
-            | self.format
-            | self.continuation
+            || self.command
+            || self.parameter
+            || self.memory
+            || self.device
+            || self.busy
+            || self.precondition
+            || self.object
+            || self.checksum
+            || self.format
+            || self.continuation
     }
 
     // A fault of the first group holds.
@@ -172,20 +157,23 @@ impl Codes {
     pub(crate) fn first_group(self) -> bool
         ensures { result ≡ any_fault self }
     {
-        self.command | self.memory | self.checksum | self.continuation
+        self.command || self.memory || self.checksum || self.continuation
     }
 }
 
 // 02: the type is neither write nor read, the command is not in the table, or it cannot be read.
 #[tactic(auto, unfolding(crate::specs::Faults::wrong_command))]
-fn wrong_command(found: Found, kind: u8) -> bool
+fn wrong_command(found: Option<Command>, kind: u8) -> bool
     ensures { result ≡ wrong_command found kind }
 {
-    let known = found.known();
-    let readable = found.readable();
-    !((kind == packet::HOST_WRITE) | (kind == packet::HOST_READ))
-        | !known
-        | ((kind == packet::HOST_READ) & !readable)
+    let Some(c) = found else {
+        return true;
+    };
+    match kind {
+        packet::HOST_WRITE => false,
+        packet::HOST_READ => !c.readable(),
+        _ => true,
+    }
 }
 
 // 04: the payload alone, or with the bytes that are held, is more than the hold has room for.
@@ -194,10 +182,10 @@ fn too_long(active: bool, held: usize, flags: u8, size: usize) -> bool
     requires { (held ≤ 1024) × (size < 65536) }
     ensures { result ≡ too_long active held flags size }
 {
-    (HOLD < size)
-        | (((flags == packet::INTERMEDIATE) | (flags == packet::LAST))
-            & active
-            & (HOLD < held + size))
+    HOLD < size
+        || ((flags == packet::INTERMEDIATE || flags == packet::LAST)
+            && active
+            && HOLD < held + size)
 }
 
 // 0B: the flags do not go with the type or with the open transfer.
@@ -205,46 +193,44 @@ fn too_long(active: bool, held: usize, flags: u8, size: usize) -> bool
 fn wrong_order(active: bool, ours: bool, kind: u8, flags: u8) -> bool
     ensures { result ≡ wrong_order active ours kind flags }
 {
-    (packet::LAST < flags)
-        | ((kind != packet::HOST_WRITE) & (flags != packet::WHOLE))
-        | (((flags == packet::INTERMEDIATE) | (flags == packet::LAST)) & !ours)
-        | (((flags == packet::WHOLE) | (flags == packet::BEGINNING)) & active)
+    packet::LAST < flags
+        || (kind != packet::HOST_WRITE && flags != packet::WHOLE)
+        || ((flags == packet::INTERMEDIATE || flags == packet::LAST) && !ours)
+        || ((flags == packet::WHOLE || flags == packet::BEGINNING) && active)
 }
 
 // A transfer is open for this command.
-pub(crate) fn open_for(found: Found, t: TransferState) -> bool
+pub(crate) fn open_for(found: Option<Command>, t: TransferState) -> bool
     ensures { result ≡ open_for_in found t }
 {
-    let Found::Known(c) = found else {
+    let Some(c) = found else {
         return false;
     };
     let code = c.code();
-    (t.active != 0) & ((t.cmd1 == code.cmd1) & (t.cmd2 == code.cmd2))
+    t.is_open() && t.cmd1 == code.cmd1 && t.cmd2 == code.cmd2
 }
 
 // The first group of faults, every one that holds.
-pub(crate) fn faults(found: Found, t: TransferState, header: [u8; HEADER], right: bool) -> Codes
+pub(crate) fn faults(
+    found: Option<Command>,
+    t: TransferState,
+    header: [u8; HEADER],
+    right: bool,
+) -> Codes
     requires { transfer_in_rule t ≡ true }
     ensures { result ≡ faults_of found (is_open_in t) (open_for_in found t) (held_in t) (type_of header) (flags_of header) (payload_length header) right }
 {
     let kind = header[0];
     let flags = header[3];
     let size = packet::word(header[4], header[5]);
-    let active = t.active != 0;
+    let active = t.is_open();
     let ours = open_for(found, t);
     let held = t.held();
     Codes {
-        failure: false,
         command: wrong_command(found, kind),
-        parameter: false,
         memory: too_long(active, held, flags, size),
-        device: false,
-        busy: false,
-        precondition: false,
-        object: false,
         checksum: !right,
-        format: false,
         continuation: wrong_order(active, ours, kind, flags),
-        wrong: WrongByte::Nothing,
+        ..Codes::NONE
     }
 }

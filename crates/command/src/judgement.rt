@@ -7,13 +7,12 @@ ghost use Rattle.command.specs.Judgement.{judge_data as judge_data_of, judge_rea
 ghost use Rattle.command.specs.Controller.{transfer_in, packet_in, transfer_in_rule};
 ghost use Rattle.command.specs.Faults.{arrived};
 ghost use Rattle.command.specs.Response.{wrong_in};
-ghost use Rattle.command.specs.Rules.{byte_of};
 
 use crate::faults::{Codes, faults};
-use crate::rules::{WrongByte, blocked, wrong_byte};
-use crate::table::{Command, Found};
-use crate::transfer::TransferState;
-use crate::value::{Parsed, Value, parse};
+use crate::rules::{blocked, wrong_byte};
+use crate::table::Command;
+use crate::transfer::{HOLD, TransferState};
+use crate::value::{Value, parse};
 use packet::HEADER;
 
 #[derive(Clone, Copy)]
@@ -30,28 +29,24 @@ pub(crate) enum Judgement {
 
 impl Judgement {
     // The byte that code 03 is about.
-    pub(crate) fn wrong(self) -> WrongByte
-        ensures { byte_of result ≡ wrong_in self }
+    pub(crate) fn wrong(self) -> Option<u8>
+        ensures { result ≡ wrong_in self }
     {
         match self {
             Judgement::Error(k) => k.wrong,
-            Judgement::Hold(_) => WrongByte::Nothing,
-            Judgement::Write(_) => WrongByte::Nothing,
-            Judgement::Read(_) => WrongByte::Nothing,
+            _ => None,
         }
     }
 }
 
-// The data of a write are complete: what is held, and the payload.
-fn judge_write(c: Command, mode: u8, held: &[u8], payload: &[u8]) -> Judgement
-    requires { (length held.now ≤ 1024) × (length payload.now < 65536) }
+// The data of a write are complete: what is held, and the payload. No transfer and no flags are looked at.
+pub(crate) fn judge_write(c: Command, mode: u8, held: &[u8], payload: &[u8]) -> Judgement
     ensures { result ≡ judge_write_of c mode (held.now ++ payload.now) }
 {
-    let Parsed::Values(v) = parse(c, held, payload) else {
+    let Some(v) = parse(c, held, payload) else {
         return Judgement::Error(Codes::SIZE);
     };
-    let wrong = wrong_byte(v);
-    if let WrongByte::At(byte) = wrong {
+    if let Some(byte) = wrong_byte(v) {
         return Judgement::Error(Codes::value(byte));
     }
     if blocked(v, mode) {
@@ -72,13 +67,13 @@ fn judge_read(c: Command, n: usize) -> Judgement
 }
 
 // With no fault of the first group: only for flags 00 or 03 are the data complete.
+#[tactic(auto, unfolding(crate::specs::Judgement::judge_data))]
 fn judge_data(c: Command, mode: u8, header: [u8; HEADER], held: &[u8], payload: &[u8]) -> Judgement
-    requires { (length held.now ≤ 1024) × (length payload.now < 65536) }
     ensures { result ≡ judge_data_of c mode (type_of header) (flags_of header) (held.now ++ payload.now) }
 {
     let kind = header[0];
     let flags = header[3];
-    if (flags == packet::WHOLE) | (flags == packet::LAST) {
+    if flags == packet::WHOLE || flags == packet::LAST {
         if kind == packet::HOST_READ {
             return judge_read(c, held.len() + payload.len());
         }
@@ -94,15 +89,15 @@ pub(crate) fn judge(
     t: TransferState,
     header: [u8; HEADER],
     right: bool,
-    buffer: &[u8],
+    buffer: &[u8; HOLD],
     payload: &[u8],
 ) -> Judgement
-    requires { (transfer_in_rule t ≡ true) × (length buffer.now ≡ 1024) × (length payload.now < 65536) }
+    requires { transfer_in_rule t ≡ true }
     ensures { result ≡ judge_of mode (transfer_in t buffer.now) (packet_in header right payload.now) }
 {
     let found = Command::find(header[1], header[2]);
     let codes = faults(found, t, header, right);
-    let Found::Known(c) = found else {
+    let Some(c) = found else {
         return Judgement::Error(codes);
     };
     if codes.first_group() {
@@ -116,13 +111,15 @@ pub(crate) fn judge(
 pub(crate) fn judge_bytes(
     mode: u8,
     t: TransferState,
-    buffer: &[u8],
+    buffer: &[u8; HOLD],
     p: &[u8],
     right: bool,
 ) -> Judgement
-    requires { (7 ≤ length p.now) × (length p.now ≤ 65542) × (size p.now ≡ length p.now) × (right ≡ right_sum p.now) × (transfer_in_rule t ≡ true) × (length buffer.now ≡ 1024) }
+    requires rule { transfer_in_rule t ≡ true }
+    requires whole { (7 ≤ length p.now) × (size p.now ≡ length p.now) }
+    requires sum { right ≡ right_sum p.now }
     ensures { result ≡ judge_of mode (transfer_in t buffer.now) (arrived p.now) }
 {
-    let header = [p[0], p[1], p[2], p[3], p[4], p[5]];
+    let header = *p.first_chunk::<HEADER>().unwrap();
     judge(mode, t, header, right, buffer, &p[HEADER..p.len() - 1])
 }

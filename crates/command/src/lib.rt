@@ -31,21 +31,20 @@ mod endpoint;
 mod player;
 
 // The head and its calls.
-pub use asking::{Asked, Asking, Judged, ask, judge_packet};
-pub use carrying::{CarriedOut, CarryStep, Performed, carry_out, perform};
+pub use asking::{JudgeRefusal, judge_packet};
+pub use carrying::{CarryOutRefusal, CarryStep, carry_out};
 pub use controller::{Controller, Registers};
-pub use encoder::{Encoded, LIST_OUTPUT, encode, standard_list};
-pub use endpoint::{Served, Step, receive, serve};
+pub use encoder::{EncodeRefusal, LIST_OUTPUT, encode, standard_list};
+pub use endpoint::{Reply, Step, receive};
 pub use output::OUTPUT;
-pub use player::{Offence, Played, play};
+pub use player::{Played, play};
 pub use ruling::{HOLDS, JudgementRecord, Kept, NO_WRONG_BYTE, READS, Ruling, WRITES};
 pub use transfer::HOLD;
 
 // The commands and their values.
-pub use rules::WrongByte;
 pub use settings::{
     DisplaySetting, Drive, LedCurrent, Microseconds, PatternSequence, Settings, StaticColour,
     VideoInput, VideoMode, value_of,
 };
-pub use table::{Command, Found};
+pub use table::Command;
 pub use value::Value;

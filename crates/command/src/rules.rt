@@ -7,7 +7,6 @@
 // stands at the later one. At the end: what the checks mean for a write and for all settings.
 ghost use Rattle.std.specs.Prelude.{◌/◌, ◌%◌, ◌<◌, ◌≡◌, [], ◌∷◌, not, ◌&&◌, ◌||◌, eqb, leb};
 ghost use Rattle.command.specs.Rules.{listed, most_patterns, one_of, pairs, within, first_wrong, mode_fields, pattern_fields, current_fields, colour_fields, setting_fields, input_fields, video_fields, sequence_fields, run_fields, allowed as allowed_in, wrong_byte, blocked as blocked_in, settings_in_rule};
-ghost use Rattle.command.specs.Inner.{is_nothing};
 ghost use Rattle.command.specs.Value.{command_in, values_in};
 
 use crate::settings::{
@@ -16,80 +15,60 @@ use crate::settings::{
 };
 use crate::value::Value;
 
-// The byte of a command's data with which the first field begins that is not allowed.
-#[derive(Clone, Copy)]
-pub enum WrongByte {
-    // Its number, from 0.
-    At(u8),
-    // Every field is allowed.
-    Nothing,
-}
-
-impl WrongByte {
-    pub(crate) fn is_nothing(self) -> bool
-        ensures { result ≡ is_nothing self }
-    {
-        match self {
-            WrongByte::At(_) => false,
-            WrongByte::Nothing => true,
-        }
-    }
-}
-
 // 3.2 Current Display Mode (01 01), Table 3, Byte 0.
-pub(crate) fn display_mode(m: u8) -> WrongByte
+pub(crate) fn display_mode(m: u8) -> Option<u8>
     ensures { result ≡ first_wrong (mode_fields m) }
 {
     match m {
-        0x00 => WrongByte::Nothing, // Static Image
-        0x01 => WrongByte::Nothing, // Internal Test Pattern
-        0x02 => WrongByte::Nothing, // HDMI Video Input
-        0x03 => WrongByte::At(0), // Reserved
-        0x04 => WrongByte::Nothing, // Pattern Sequence Display
-        _ => WrongByte::At(0),
+        0x00 => None, // Static Image
+        0x01 => None, // Internal Test Pattern
+        0x02 => None, // HDMI Video Input
+        0x03 => Some(0), // Reserved
+        0x04 => None, // Pattern Sequence Display
+        _ => Some(0),
     }
 }
 
 // 3.3 Current Test Pattern (01 03), Table 4, Byte 0.
-fn test_pattern(p: u8) -> WrongByte
+fn test_pattern(p: u8) -> Option<u8>
     ensures { result ≡ first_wrong (pattern_fields p) }
 {
     match p {
-        0x00 => WrongByte::Nothing, // 14x8 Checkerboard (default)
-        0x01 => WrongByte::Nothing, // Solid black
-        0x02 => WrongByte::Nothing, // Solid white
-        0x03 => WrongByte::Nothing, // Solid green
-        0x04 => WrongByte::Nothing, // Solid blue
-        0x05 => WrongByte::Nothing, // Solid red
-        0x06 => WrongByte::Nothing, // Vertical lines (1-white, 7-black)
-        0x07 => WrongByte::Nothing, // Horizontal lines (1-white, 7-black)
-        0x08 => WrongByte::Nothing, // Vertical lines (1-white, 1-black)
-        0x09 => WrongByte::Nothing, // Horizontal lines (1-white, 1-black)
-        0x0A => WrongByte::Nothing, // Diagonal lines
-        0x0B => WrongByte::Nothing, // Vertical Gray Ramps
-        0x0C => WrongByte::Nothing, // Horizontal Gray Ramps
-        0x0D => WrongByte::Nothing, // ANSI 4×4 Checkerboard
-        _ => WrongByte::At(0),
+        0x00 => None, // 14x8 Checkerboard (default)
+        0x01 => None, // Solid black
+        0x02 => None, // Solid white
+        0x03 => None, // Solid green
+        0x04 => None, // Solid blue
+        0x05 => None, // Solid red
+        0x06 => None, // Vertical lines (1-white, 7-black)
+        0x07 => None, // Horizontal lines (1-white, 7-black)
+        0x08 => None, // Vertical lines (1-white, 1-black)
+        0x09 => None, // Horizontal lines (1-white, 1-black)
+        0x0A => None, // Diagonal lines
+        0x0B => None, // Vertical Gray Ramps
+        0x0C => None, // Horizontal Gray Ramps
+        0x0D => None, // ANSI 4×4 Checkerboard
+        _ => Some(0),
     }
 }
 
 // 3.4 LED Current Setting (01 04), Table 5.
-fn led_current(q: LedCurrent) -> WrongByte
+fn led_current(q: LedCurrent) -> Option<u8>
     ensures { result ≡ first_wrong (current_fields q) }
 {
     // Byte 0 - Byte 1: Red LED current.
     if !led_drive(q.red) {
-        return WrongByte::At(0);
+        return Some(0);
     }
     // Byte 2 - Byte 3: Green LED current.
     if !led_drive(q.green) {
-        return WrongByte::At(2);
+        return Some(2);
     }
     // Byte 4 - Byte 5: Blue LED current.
     if !led_drive(q.blue) {
-        return WrongByte::At(4);
+        return Some(4);
     }
-    WrongByte::Nothing
+    None
 }
 
 // Each row of Table 5: Range 0 - 1024. Default 274. Of what is printed below the table nothing is checked:
@@ -98,8 +77,7 @@ fn led_current(q: LedCurrent) -> WrongByte
 fn led_drive(current: Drive) -> bool
     ensures { result ≡ leb current.0 1024 }
 {
-    let counts = current.0;
-    match counts {
+    match current.0 {
         0..=1024 => true,
         _ => false,
     }
@@ -107,35 +85,34 @@ fn led_drive(current: Drive) -> bool
 
 // 3.5 is the static image, 01 05, which this build leaves out. Below it and without a number of its own:
 // Static Color (01 06), Table 7, Byte 0 - Byte 3: 24 bit Color in 00RRGGBB format.
-fn static_colour(q: StaticColour) -> WrongByte
+fn static_colour(q: StaticColour) -> Option<u8>
     ensures { result ≡ first_wrong (colour_fields q) }
 {
     // The least significant byte is sent first: BB, GG and RR are Byte 0 to Byte 2, any value, and 00 is
     // Byte 3 (document 01).
-    let last = q.last;
-    match last {
-        0x00 => WrongByte::Nothing, // Byte 3
-        _ => WrongByte::At(3),
+    match q.last {
+        0x00 => None, // Byte 3
+        _ => Some(3),
     }
 }
 
 // 3.6 Display Setting (01 07), Table 8.
-fn display_setting(q: DisplaySetting) -> WrongByte
+fn display_setting(q: DisplaySetting) -> Option<u8>
     ensures { result ≡ first_wrong (setting_fields q) }
 {
     // Byte 0: Flip image on long axis.
     if !long_axis(q.long) {
-        return WrongByte::At(0);
+        return Some(0);
     }
     // Byte 1: Flip image on short axis.
     if !short_axis(q.short) {
-        return WrongByte::At(1);
+        return Some(1);
     }
     // Byte 2: Rotate image by -90 degrees.
     if !rotation(q.rotate) {
-        return WrongByte::At(2);
+        return Some(2);
     }
-    WrongByte::Nothing
+    None
 }
 
 // Table 8, Byte 0.
@@ -172,19 +149,19 @@ fn rotation(rotate: u16) -> bool
 }
 
 // 3.7 Video Input Setting (02 00), Table 9.
-fn video_input(q: VideoInput) -> WrongByte
+fn video_input(q: VideoInput) -> Option<u8>
     ensures { result ≡ first_wrong (input_fields q) }
 {
     // Byte 0 - Byte 1: Input Resolution X. Any value by itself.
     // Byte 2 - Byte 3: Input Resolution Y. It makes a supported resolution with X.
     if !supported(q.x, q.y) {
-        return WrongByte::At(2);
+        return Some(2);
     }
     // Byte 4 - Byte 5: First Active Pixel (Input cropping). Any value (document 01).
     // Byte 6 - Byte 7: First Active Line (Input cropping). Any value (document 01).
     // Byte 8 - Byte 9: Active Width (Input cropping). Any value (document 01).
     // Byte 10 - Byte 11: Active Height (Input cropping). Any value (document 01).
-    WrongByte::Nothing
+    None
 }
 
 // An entry of Table 10, X × Y.
@@ -233,7 +210,8 @@ const SUPPORTED_RESOLUTIONS: [Resolution; 26] = [
     Resolution { x: 608, y: 684 },
 ];
 
-// X and Y in one number, from which both can be had again: one comparison tells two resolutions apart.
+// X and Y in one number, from which both can be had again: one comparison tells two resolutions apart, which
+// each call does for the settings (docs/DECISIONS.md has what it costs otherwise).
 fn packed(x: u16, y: u16) -> u32
     ensures { (result / 65536 ≡ x) × (result % 65536 ≡ y) }
 {
@@ -245,35 +223,29 @@ fn supported(x: u16, y: u16) -> bool
     ensures { result ≡ listed x y pairs }
 {
     let wanted = packed(x, y);
-    let table = SUPPORTED_RESOLUTIONS;
-    let mut k = table.len();
-    while 0 < k {
-        k -= 1;
-        let entry = table[k];
-        if wanted == packed(entry.x, entry.y) {
-            return true;
-        }
-    }
-    false
+    SUPPORTED_RESOLUTIONS
+        .iter()
+        .rev()
+        .any(|entry| wanted == packed(entry.x, entry.y))
 }
 
 // 3.8 Video Mode Setting (02 01), Table 11.
-fn video_mode(q: VideoMode) -> WrongByte
+fn video_mode(q: VideoMode) -> Option<u8>
     ensures { result ≡ first_wrong (video_fields q) }
 {
     // Byte 0: Frame Rate 15, 30, 40, 50, or 60 Hz.
     if !frame_rate(q.rate) {
-        return WrongByte::At(0);
+        return Some(0);
     }
     // Byte 1: Bit Depth. Range 1 - 8. (default is 8)
     if !bit_depth(q.depth) {
-        return WrongByte::At(1);
+        return Some(1);
     }
     // Byte 2
     if !video_led(q.led) {
-        return WrongByte::At(2);
+        return Some(2);
     }
-    WrongByte::Nothing
+    None
 }
 
 // Table 11, Byte 0.
@@ -314,24 +286,24 @@ fn video_led(led: u16) -> bool
 }
 
 // 3.9 Pattern Sequence Setting (04 00), Table 12.
-fn pattern_sequence(q: PatternSequence) -> WrongByte
+fn pattern_sequence(q: PatternSequence) -> Option<u8>
     ensures { result ≡ first_wrong (sequence_fields q) }
 {
     // Byte 0: Pattern bit depth (1 - 8), as Byte 1 of Table 11.
     if !bit_depth(q.depth) {
-        return WrongByte::At(0);
+        return Some(0);
     }
     // Byte 1: Number of patterns in the sequence (1 - 96), and no more than 3.10 numbers.
     if !pattern_count(q.depth, q.count) {
-        return WrongByte::At(1);
+        return Some(1);
     }
     // Byte 2: Include inverted patterns (only applicable for 1 bit patterns).
     if !inversion(q.depth, q.inversion) {
-        return WrongByte::At(2);
+        return Some(2);
     }
     // Byte 3: Input trigger type.
     if !trigger_type(q.depth, q.trigger) {
-        return WrongByte::At(3);
+        return Some(3);
     }
     // Byte 4 - Byte 7: Input Trigger Delay in micro seconds. Any value (document 01).
     // Byte 8 - Byte 11: Trigger Period in micro second (only for Auto Trigger mode). Any value, with
@@ -339,9 +311,9 @@ fn pattern_sequence(q: PatternSequence) -> WrongByte
     // Byte 12 - Byte 15: Exposure Time in micro seconds. Any value (document 01).
     // Byte 16: LED Select.
     if !led_select(q.led) {
-        return WrongByte::At(16);
+        return Some(16);
     }
-    WrongByte::Nothing
+    None
 }
 
 // Table 12, Byte 1.
@@ -409,18 +381,18 @@ fn count_in_limit(depth: u8, count: u8) -> bool
 }
 
 // 3.11 Start Pattern Sequence (04 02), Table 16, Byte 0.
-fn sequence_run(r: u32) -> WrongByte
+fn sequence_run(r: u32) -> Option<u8>
     ensures { result ≡ first_wrong (run_fields r) }
 {
     match r {
-        0 => WrongByte::Nothing, // Stop Pattern Sequence
-        1 => WrongByte::Nothing, // Start Pattern Sequence
-        _ => WrongByte::At(0),
+        0 => None, // Stop Pattern Sequence
+        1 => None, // Start Pattern Sequence
+        _ => Some(0),
     }
 }
 
 // Which byte of a write is wrong.
-pub(crate) fn wrong_byte(v: Value) -> WrongByte
+pub(crate) fn wrong_byte(v: Value) -> Option<u8>
     ensures { result ≡ wrong_byte (command_in v) (values_in v) }
 {
     match v {
@@ -440,7 +412,7 @@ pub(crate) fn wrong_byte(v: Value) -> WrongByte
 pub(crate) fn allowed(v: Value) -> bool
     ensures { result ≡ allowed_in (command_in v) (values_in v) }
 {
-    wrong_byte(v).is_nothing()
+    wrong_byte(v).is_none()
 }
 
 // Run 1 outside display mode 4 (document 01; the guide has no such rule).
@@ -459,14 +431,14 @@ pub(crate) fn blocked(v: Value, mode: u8) -> bool
 pub(crate) fn settings_in_rule(s: Settings) -> bool
     ensures { result ≡ settings_in_rule s }
 {
-    display_mode(s.mode).is_nothing()
-        && test_pattern(s.pattern).is_nothing()
-        && led_current(s.current).is_nothing()
-        && static_colour(s.colour).is_nothing()
-        && display_setting(s.setting).is_nothing()
-        && video_mode(s.video).is_nothing()
-        && pattern_sequence(s.sequence).is_nothing()
-        && sequence_run(s.run).is_nothing()
+    display_mode(s.mode).is_none()
+        && test_pattern(s.pattern).is_none()
+        && led_current(s.current).is_none()
+        && static_colour(s.colour).is_none()
+        && display_setting(s.setting).is_none()
+        && video_mode(s.video).is_none()
+        && pattern_sequence(s.sequence).is_none()
+        && sequence_run(s.run).is_none()
         && !blocked(Value::SequenceRun(s.run), s.mode)
-        && video_input(s.input).is_nothing()
+        && video_input(s.input).is_none()
 }

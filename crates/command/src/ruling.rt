@@ -2,16 +2,15 @@
 // they are. It says what a packet draws, and keeps what it was judged under, so that it can be carried
 // out later.
 ghost use Rattle.std.specs.Prelude.{◌≡◌};
-ghost use Rattle.command.specs.Rules.{byte_of};
 ghost use Rattle.command.specs.Ruling.{mask_in, acceptance, wrong_told, kept_of, transfer_of_kept};
 
 use crate::controller::Registers;
 use crate::judgement::Judgement;
-use crate::rules::WrongByte;
 use crate::settings::Settings;
 use crate::transfer::{HOLD, TransferState};
 
 // How a packet with no fault is accepted: its data are held, its write is carried out, or it is a read.
+// Numbers and no enum, since a record that is lent may have any.
 pub const HOLDS: u16 = 1;
 
 pub const WRITES: u16 = 2;
@@ -46,7 +45,7 @@ impl Kept {
         }
     }
 
-    // The open transfer.
+    // The open transfer, as `Registers::transfer` has it: the two records have the layouts that C knows.
     pub(crate) fn transfer(self) -> TransferState
         ensures { result ≡ transfer_of_kept self }
     {
@@ -79,7 +78,7 @@ pub struct Ruling {
 }
 
 impl Ruling {
-    // That of a call that is refused: "error" with no code, which is never carried out.
+    // The ruling of no packet: "error" with no code at all, which is never carried out.
     pub(crate) const NONE: Ruling = Ruling {
         codes: 0,
         accepts: 0,
@@ -105,15 +104,21 @@ pub struct JudgementRecord {
     pub joined: [u8; HOLD],
 }
 
+impl JudgementRecord {
+    // What stands in a record before a call: zeros.
+    pub(crate) const NONE: JudgementRecord = JudgementRecord {
+        ruling: Ruling::NONE,
+        joined: [0; HOLD],
+    };
+}
+
 // The error codes of a judgement, as one number.
 pub(crate) fn codes(j: Judgement) -> u16
     ensures { result ≡ mask_in j }
 {
     match j {
         Judgement::Error(k) => k.mask(),
-        Judgement::Hold(_) => 0,
-        Judgement::Write(_) => 0,
-        Judgement::Read(_) => 0,
+        _ => 0,
     }
 }
 
@@ -130,11 +135,8 @@ pub(crate) fn accepts(j: Judgement) -> u16
 }
 
 // The byte that is wrong, as a number.
-pub(crate) fn told_byte(w: WrongByte) -> u16
-    ensures { result ≡ wrong_told (byte_of w) }
+pub(crate) fn told_byte(wrong: Option<u8>) -> u16
+    ensures { result ≡ wrong_told wrong }
 {
-    match w {
-        WrongByte::At(n) => n as u16,
-        WrongByte::Nothing => NO_WRONG_BYTE,
-    }
+    wrong.map_or(NO_WRONG_BYTE, u16::from)
 }

@@ -11,17 +11,17 @@ pub(crate) const PATTERN_SEQUENCE_MODE: u8 = 4;
 
 // LED drive, in counts.
 #[repr(C)]
-#[derive(Clone, Copy)]
+#[derive(Clone, Copy, PartialEq, Eq)]
 pub struct Drive(pub u16);
 
 // A time, in microseconds.
 #[repr(C)]
-#[derive(Clone, Copy)]
+#[derive(Clone, Copy, PartialEq, Eq)]
 pub struct Microseconds(pub u32);
 
 // 01 04
 #[repr(C)]
-#[derive(Clone, Copy)]
+#[derive(Clone, Copy, PartialEq, Eq)]
 pub struct LedCurrent {
     pub red: Drive,
     pub green: Drive,
@@ -30,7 +30,7 @@ pub struct LedCurrent {
 
 // 01 06; the last byte is 0.
 #[repr(C)]
-#[derive(Clone, Copy)]
+#[derive(Clone, Copy, PartialEq, Eq)]
 pub struct StaticColour {
     pub blue: u8,
     pub green: u8,
@@ -40,7 +40,7 @@ pub struct StaticColour {
 
 // 01 07
 #[repr(C)]
-#[derive(Clone, Copy)]
+#[derive(Clone, Copy, PartialEq, Eq)]
 pub struct DisplaySetting {
     pub long: u8,
     pub short: u8,
@@ -49,7 +49,7 @@ pub struct DisplaySetting {
 
 // 02 00
 #[repr(C)]
-#[derive(Clone, Copy)]
+#[derive(Clone, Copy, PartialEq, Eq)]
 pub struct VideoInput {
     pub x: u16,
     pub y: u16,
@@ -61,7 +61,7 @@ pub struct VideoInput {
 
 // 02 01
 #[repr(C)]
-#[derive(Clone, Copy)]
+#[derive(Clone, Copy, PartialEq, Eq)]
 pub struct VideoMode {
     pub rate: u8,
     pub depth: u8,
@@ -70,7 +70,7 @@ pub struct VideoMode {
 
 // 04 00
 #[repr(C)]
-#[derive(Clone, Copy)]
+#[derive(Clone, Copy, PartialEq, Eq)]
 pub struct PatternSequence {
     pub depth: u8,
     pub count: u8,
@@ -83,9 +83,10 @@ pub struct PatternSequence {
 }
 
 // The values of every command in the table. Each field, here and in the parts, is as wide as the room
-// up to the next one: a record that is lent has no holes.
+// up to the next one: a record that is lent has no holes. They are numbers and no enums, since the record may
+// have any content; the rules say which values are allowed.
 #[repr(C)]
-#[derive(Clone, Copy)]
+#[derive(Clone, Copy, PartialEq, Eq)]
 pub struct Settings {
     // 01 01 display mode
     pub mode: u8,
@@ -169,30 +170,12 @@ pub fn value_of(s: Settings, c: Command) -> Value
     match c {
         Command::DisplayMode => Value::DisplayMode(s.mode),
         Command::TestPattern => Value::TestPattern(s.pattern),
-        Command::LedCurrent => {
-            let current = s.current;
-            Value::LedCurrent(current)
-        }
-        Command::StaticColour => {
-            let colour = s.colour;
-            Value::StaticColour(colour)
-        }
-        Command::DisplaySetting => {
-            let setting = s.setting;
-            Value::DisplaySetting(setting)
-        }
-        Command::VideoInput => {
-            let input = s.input;
-            Value::VideoInput(input)
-        }
-        Command::VideoMode => {
-            let video = s.video;
-            Value::VideoMode(video)
-        }
-        Command::PatternSequence => {
-            let sequence = s.sequence;
-            Value::PatternSequence(sequence)
-        }
+        Command::LedCurrent => Value::LedCurrent(s.current),
+        Command::StaticColour => Value::StaticColour(s.colour),
+        Command::DisplaySetting => Value::DisplaySetting(s.setting),
+        Command::VideoInput => Value::VideoInput(s.input),
+        Command::VideoMode => Value::VideoMode(s.video),
+        Command::PatternSequence => Value::PatternSequence(s.sequence),
         Command::SequenceRun => Value::SequenceRun(s.run),
     }
 }

@@ -1,7 +1,7 @@
 // The table of the nine commands: their bytes CMD1 and CMD2, the size of their data, their order.
 ghost use Rattle.std.specs.Prelude.{◌≡◌};
-ghost use Rattle.command.specs.Inner.{total, command_at};
-ghost use Rattle.command.specs.Table.{is_known, can_read, cmd1_for, cmd2_for, command_of, layout};
+ghost use Rattle.command.specs.Inner.{total};
+ghost use Rattle.command.specs.Table.{readable, cmd1_for, cmd2_for, command_of, layout};
 
 #[derive(Clone, Copy)]
 pub enum Command {
@@ -16,13 +16,6 @@ pub enum Command {
     SequenceRun,
 }
 
-// The command of two bytes, if it is in the table.
-#[derive(Clone, Copy)]
-pub enum Found {
-    Known(Command),
-    Unknown,
-}
-
 // A command's bytes.
 #[derive(Clone, Copy)]
 pub(crate) struct Code {
@@ -31,63 +24,53 @@ pub(crate) struct Code {
 }
 
 impl Code {
-    fn new(cmd1: u8, cmd2: u8) -> Code
+    pub(crate) fn new(cmd1: u8, cmd2: u8) -> Code
         ensures { (result.cmd1 ≡ cmd1) × (result.cmd2 ≡ cmd2) }
     {
         Code { cmd1, cmd2 }
     }
 }
 
-impl Found {
-    pub(crate) fn known(self) -> bool
-        ensures { result ≡ is_known self }
-    {
-        match self {
-            Found::Known(_) => true,
-            Found::Unknown => false,
-        }
-    }
-
-    // All but 01 06 can be read.
-    pub(crate) fn readable(self) -> bool
-        ensures { result ≡ can_read self }
-    {
-        let Found::Known(c) = self else {
-            return false;
-        };
-        match c {
-            Command::StaticColour => false,
-            _ => true,
-        }
-    }
-}
-
 impl Command {
-    // The command of these bytes.
+    // The commands in table order.
+    pub(crate) const TABLE: [Command; 9] = [
+        Command::DisplayMode,
+        Command::TestPattern,
+        Command::LedCurrent,
+        Command::StaticColour,
+        Command::DisplaySetting,
+        Command::VideoInput,
+        Command::VideoMode,
+        Command::PatternSequence,
+        Command::SequenceRun,
+    ];
+
+    // The command of these bytes, if it is in the table. Not `TryFrom`: that it is not there is one fault of a
+    // packet among others, and no error yet.
     #[tactic(auto, unfolding(crate::specs::Table::command_of, crate::specs::Table::find))]
-    pub fn find(cmd1: u8, cmd2: u8) -> Found
+    pub fn find(cmd1: u8, cmd2: u8) -> Option<Command>
         ensures { result ≡ command_of cmd1 cmd2 }
     {
         match cmd1 {
             0x01 => match cmd2 {
-                0x01 => Found::Known(Command::DisplayMode),
-                0x03 => Found::Known(Command::TestPattern),
-                0x04 => Found::Known(Command::LedCurrent),
-                0x06 => Found::Known(Command::StaticColour),
-                0x07 => Found::Known(Command::DisplaySetting),
-                _ => Found::Unknown,
+                0x01 => Some(Command::DisplayMode),
+                0x03 => Some(Command::TestPattern),
+                0x04 => Some(Command::LedCurrent),
+                0x06 => Some(Command::StaticColour),
+                0x07 => Some(Command::DisplaySetting),
+                _ => None,
             },
             0x02 => match cmd2 {
-                0x00 => Found::Known(Command::VideoInput),
-                0x01 => Found::Known(Command::VideoMode),
-                _ => Found::Unknown,
+                0x00 => Some(Command::VideoInput),
+                0x01 => Some(Command::VideoMode),
+                _ => None,
             },
             0x04 => match cmd2 {
-                0x00 => Found::Known(Command::PatternSequence),
-                0x02 => Found::Known(Command::SequenceRun),
-                _ => Found::Unknown,
+                0x00 => Some(Command::PatternSequence),
+                0x02 => Some(Command::SequenceRun),
+                _ => None,
             },
-            _ => Found::Unknown,
+            _ => None,
         }
     }
 
@@ -125,20 +108,10 @@ impl Command {
         }
     }
 
-    // The command in line k of the table; past its end, the last.
-    pub(crate) fn at(k: usize) -> Command
-        ensures { result ≡ command_at k }
+    // All but 01 06 can be read.
+    pub(crate) fn readable(self) -> bool
+        ensures { result ≡ readable self }
     {
-        match k {
-            0 => Command::DisplayMode,
-            1 => Command::TestPattern,
-            2 => Command::LedCurrent,
-            3 => Command::StaticColour,
-            4 => Command::DisplaySetting,
-            5 => Command::VideoInput,
-            6 => Command::VideoMode,
-            7 => Command::PatternSequence,
-            _ => Command::SequenceRun,
-        }
+        !matches!(self, Command::StaticColour)
     }
 }

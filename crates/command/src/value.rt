@@ -1,12 +1,15 @@
 // A command with its values: what a write carries and a read answers, read from its data and written to it.
-ghost use Rattle.std.specs.Prelude.{◌≡◌, [], ◌++◌, ◌≤◌, ◌<◌, length};
+#![tactic(auto, unfolding(crate::specs::Value::data_in, crate::specs::Data::join_all))]
+
+ghost use Rattle.std.specs.Prelude.{◌≡◌, ℕ, List, ◌++◌, ◌≤◌, ◌<◌, length};
+ghost use Rattle.command.specs.Data.{join_all};
 ghost use Rattle.command.specs.Value.{command_in, value_from, data_in};
 ghost use Rattle.command.specs.Fields.{current_values, colour_values, setting_values, input_values, video_values, sequence_values};
 ghost use Rattle.command.specs.Table.{layout};
 ghost use Rattle.command.specs.declared.table.Command.TheVariants as command;
-ghost use Rattle.command.specs.Inner.{Holds, total, split_from, join_onto, parsed};
+ghost use Rattle.command.specs.Inner.{total, split_from, parsed};
 
-use crate::data::{Data, byte_at, joined, long_at, word_at};
+use crate::data::{Data, byte_at, long_at, word_at};
 use crate::settings::{
     DisplaySetting, Drive, LedCurrent, Microseconds, PatternSequence, StaticColour, VideoInput,
     VideoMode,
@@ -24,14 +27,6 @@ pub enum Value {
     VideoMode(VideoMode),
     PatternSequence(PatternSequence),
     SequenceRun(u32),
-}
-
-// What reading a command's data finds.
-#[derive(Clone, Copy)]
-pub(crate) enum Parsed {
-    Values(Value),
-    // They have not the command's size.
-    WrongSize,
 }
 
 impl Value {
@@ -54,21 +49,19 @@ impl Value {
 
 // The values that stand in a command's data, where their size is right: what is held of a transfer,
 // and after it a packet's payload.
-pub(crate) fn parse(c: Command, held: &[u8], payload: &[u8]) -> Parsed
-    requires { (length held.now ≤ 1024) × (length payload.now < 65536) }
+#[tactic(auto, using(crate::proofs::data::Laws::size_layout, crate::proofs::data::Laws::split_places), unfolding(crate::specs::Inner::parsed))]
+pub(crate) fn parse(c: Command, held: &[u8], payload: &[u8]) -> Option<Value>
     ensures { result ≡ parsed c (held.now ++ payload.now) }
 {
     if held.len() + payload.len() != c.size() {
-        return Parsed::WrongSize;
+        return None;
     }
     // With nothing held the data are read where they stand.
-    if held.len() == 0 {
-        return Parsed::Values(from(c, payload));
+    if held.is_empty() {
+        return Some(from(c, payload));
     }
-    let d = joined(held, payload);
-    let bytes = d.bytes;
-    let n = d.count;
-    Parsed::Values(from(c, &bytes[..n]))
+    let joined = Data::new().append(held).append(payload);
+    Some(from(c, joined.as_slice()))
 }
 
 // The values in data of the command's size.
@@ -79,166 +72,195 @@ fn from(c: Command, d: &[u8]) -> Value
     match c {
         Command::DisplayMode => Value::DisplayMode(byte_at(d, 0)),
         Command::TestPattern => Value::TestPattern(byte_at(d, 0)),
-        Command::LedCurrent => Value::LedCurrent(current_in(d)),
-        Command::StaticColour => Value::StaticColour(colour_in(d)),
-        Command::DisplaySetting => Value::DisplaySetting(setting_in(d)),
-        Command::VideoInput => Value::VideoInput(input_in(d)),
-        Command::VideoMode => Value::VideoMode(video_in(d)),
-        Command::PatternSequence => Value::PatternSequence(sequence_in(d)),
+        Command::LedCurrent => Value::LedCurrent(LedCurrent::read(d)),
+        Command::StaticColour => Value::StaticColour(StaticColour::read(d)),
+        Command::DisplaySetting => Value::DisplaySetting(DisplaySetting::read(d)),
+        Command::VideoInput => Value::VideoInput(VideoInput::read(d)),
+        Command::VideoMode => Value::VideoMode(VideoMode::read(d)),
+        Command::PatternSequence => Value::PatternSequence(PatternSequence::read(d)),
         Command::SequenceRun => Value::SequenceRun(byte_at(d, 0) as u32),
     }
 }
 
 // The data that carry the values.
 pub(crate) fn data_of(v: Value) -> Data
-    ensures { Holds result (data_in v) }
+    ensures { result ≡ data_in v }
 {
     match v {
-        Value::DisplayMode(m) => Data::EMPTY.byte(m),
-        Value::TestPattern(p) => Data::EMPTY.byte(p),
-        Value::LedCurrent(q) => current_data(q),
-        Value::StaticColour(q) => colour_data(q),
-        Value::DisplaySetting(q) => setting_data(q),
-        Value::VideoInput(q) => input_data(q),
-        Value::VideoMode(q) => video_data(q),
-        Value::PatternSequence(q) => sequence_data(q),
-        Value::SequenceRun(r) => Data::EMPTY.low(r),
+        Value::DisplayMode(m) => Data::new().byte(m),
+        Value::TestPattern(p) => Data::new().byte(p),
+        Value::LedCurrent(q) => q.data(),
+        Value::StaticColour(q) => q.data(),
+        Value::DisplaySetting(q) => q.data(),
+        Value::VideoInput(q) => q.data(),
+        Value::VideoMode(q) => q.data(),
+        Value::PatternSequence(q) => q.data(),
+        Value::SequenceRun(r) => Data::new().low(r),
     }
 }
 
-// The commands that have several fields: their data taken apart, and put together.
+// A setting of several fields, which stand one after the other in its command's data.
+trait Fields: Sized {
+    // How many bytes each field has.
+    ghost widths: { List ℕ };
+
+    // The numbers in the fields.
+    ghost values: { Self → List ℕ };
+
+    fn read(d: &[u8]) -> Self
+        requires { length d.now ≡ total widths }
+        ensures { values result ≡ split_from 0 widths d.now };
+
+    fn data(self) -> Data
+        ensures { result ≡ join_all widths (values self) };
+}
 
 // 01 04: red, green, blue.
-fn current_in(d: &[u8]) -> LedCurrent
-    requires { length d.now ≡ total (layout command.LedCurrent) }
-    ensures { current_values result ≡ split_from 0 (layout command.LedCurrent) d.now }
-{
-    LedCurrent {
-        red: Drive(word_at(d, 0)),
-        green: Drive(word_at(d, 2)),
-        blue: Drive(word_at(d, 4)),
-    }
-}
+impl Fields for LedCurrent {
+    ghost widths = { layout command.LedCurrent };
 
-fn current_data(q: LedCurrent) -> Data
-    ensures { Holds result (join_onto [] (layout command.LedCurrent) (current_values q)) }
-{
-    Data::EMPTY.word(q.red.0).word(q.green.0).word(q.blue.0)
+    ghost values = { current_values };
+
+    fn read(d: &[u8]) -> LedCurrent {
+        LedCurrent {
+            red: Drive(word_at(d, 0)),
+            green: Drive(word_at(d, 2)),
+            blue: Drive(word_at(d, 4)),
+        }
+    }
+
+    fn data(self) -> Data {
+        Data::new()
+            .word(self.red.0)
+            .word(self.green.0)
+            .word(self.blue.0)
+    }
 }
 
 // 01 06: blue, green, red, 00.
-fn colour_in(d: &[u8]) -> StaticColour
-    requires { length d.now ≡ total (layout command.StaticColour) }
-    ensures { colour_values result ≡ split_from 0 (layout command.StaticColour) d.now }
-{
-    StaticColour {
-        blue: byte_at(d, 0),
-        green: byte_at(d, 1),
-        red: byte_at(d, 2),
-        last: byte_at(d, 3),
-    }
-}
+impl Fields for StaticColour {
+    ghost widths = { layout command.StaticColour };
 
-fn colour_data(q: StaticColour) -> Data
-    ensures { Holds result (join_onto [] (layout command.StaticColour) (colour_values q)) }
-{
-    Data::EMPTY
-        .byte(q.blue)
-        .byte(q.green)
-        .byte(q.red)
-        .byte(q.last)
+    ghost values = { colour_values };
+
+    fn read(d: &[u8]) -> StaticColour {
+        StaticColour {
+            blue: byte_at(d, 0),
+            green: byte_at(d, 1),
+            red: byte_at(d, 2),
+            last: byte_at(d, 3),
+        }
+    }
+
+    fn data(self) -> Data {
+        Data::new()
+            .byte(self.blue)
+            .byte(self.green)
+            .byte(self.red)
+            .byte(self.last)
+    }
 }
 
 // 01 07: long flip, short flip, rotate.
-fn setting_in(d: &[u8]) -> DisplaySetting
-    requires { length d.now ≡ total (layout command.DisplaySetting) }
-    ensures { setting_values result ≡ split_from 0 (layout command.DisplaySetting) d.now }
-{
-    DisplaySetting {
-        long: byte_at(d, 0),
-        short: byte_at(d, 1),
-        rotate: byte_at(d, 2) as u16,
-    }
-}
+impl Fields for DisplaySetting {
+    ghost widths = { layout command.DisplaySetting };
 
-fn setting_data(q: DisplaySetting) -> Data
-    ensures { Holds result (join_onto [] (layout command.DisplaySetting) (setting_values q)) }
-{
-    Data::EMPTY.byte(q.long).byte(q.short).low(q.rotate as u32)
+    ghost values = { setting_values };
+
+    fn read(d: &[u8]) -> DisplaySetting {
+        DisplaySetting {
+            long: byte_at(d, 0),
+            short: byte_at(d, 1),
+            rotate: byte_at(d, 2) as u16,
+        }
+    }
+
+    fn data(self) -> Data {
+        Data::new()
+            .byte(self.long)
+            .byte(self.short)
+            .low(self.rotate as u32)
+    }
 }
 
 // 02 00: X, Y, first pixel, first line, width, height.
-fn input_in(d: &[u8]) -> VideoInput
-    requires { length d.now ≡ total (layout command.VideoInput) }
-    ensures { input_values result ≡ split_from 0 (layout command.VideoInput) d.now }
-{
-    VideoInput {
-        x: word_at(d, 0),
-        y: word_at(d, 2),
-        pixel: word_at(d, 4),
-        line: word_at(d, 6),
-        width: word_at(d, 8),
-        height: word_at(d, 10),
-    }
-}
+impl Fields for VideoInput {
+    ghost widths = { layout command.VideoInput };
 
-fn input_data(q: VideoInput) -> Data
-    ensures { Holds result (join_onto [] (layout command.VideoInput) (input_values q)) }
-{
-    Data::EMPTY
-        .word(q.x)
-        .word(q.y)
-        .word(q.pixel)
-        .word(q.line)
-        .word(q.width)
-        .word(q.height)
+    ghost values = { input_values };
+
+    fn read(d: &[u8]) -> VideoInput {
+        VideoInput {
+            x: word_at(d, 0),
+            y: word_at(d, 2),
+            pixel: word_at(d, 4),
+            line: word_at(d, 6),
+            width: word_at(d, 8),
+            height: word_at(d, 10),
+        }
+    }
+
+    fn data(self) -> Data {
+        Data::new()
+            .word(self.x)
+            .word(self.y)
+            .word(self.pixel)
+            .word(self.line)
+            .word(self.width)
+            .word(self.height)
+    }
 }
 
 // 02 01: frame rate, depth, LED.
-fn video_in(d: &[u8]) -> VideoMode
-    requires { length d.now ≡ total (layout command.VideoMode) }
-    ensures { video_values result ≡ split_from 0 (layout command.VideoMode) d.now }
-{
-    VideoMode {
-        rate: byte_at(d, 0),
-        depth: byte_at(d, 1),
-        led: byte_at(d, 2) as u16,
-    }
-}
+impl Fields for VideoMode {
+    ghost widths = { layout command.VideoMode };
 
-fn video_data(q: VideoMode) -> Data
-    ensures { Holds result (join_onto [] (layout command.VideoMode) (video_values q)) }
-{
-    Data::EMPTY.byte(q.rate).byte(q.depth).low(q.led as u32)
+    ghost values = { video_values };
+
+    fn read(d: &[u8]) -> VideoMode {
+        VideoMode {
+            rate: byte_at(d, 0),
+            depth: byte_at(d, 1),
+            led: byte_at(d, 2) as u16,
+        }
+    }
+
+    fn data(self) -> Data {
+        Data::new()
+            .byte(self.rate)
+            .byte(self.depth)
+            .low(self.led as u32)
+    }
 }
 
 // 04 00: depth, count, inversion, trigger, delay, period, exposure, LED.
-fn sequence_in(d: &[u8]) -> PatternSequence
-    requires { length d.now ≡ total (layout command.PatternSequence) }
-    ensures { sequence_values result ≡ split_from 0 (layout command.PatternSequence) d.now }
-{
-    PatternSequence {
-        depth: byte_at(d, 0),
-        count: byte_at(d, 1),
-        inversion: byte_at(d, 2),
-        trigger: byte_at(d, 3),
-        delay: Microseconds(long_at(d, 4)),
-        period: Microseconds(long_at(d, 8)),
-        exposure: Microseconds(long_at(d, 12)),
-        led: byte_at(d, 16) as u32,
-    }
-}
+impl Fields for PatternSequence {
+    ghost widths = { layout command.PatternSequence };
 
-fn sequence_data(q: PatternSequence) -> Data
-    ensures { Holds result (join_onto [] (layout command.PatternSequence) (sequence_values q)) }
-{
-    Data::EMPTY
-        .byte(q.depth)
-        .byte(q.count)
-        .byte(q.inversion)
-        .byte(q.trigger)
-        .long(q.delay.0)
-        .long(q.period.0)
-        .long(q.exposure.0)
-        .low(q.led)
+    ghost values = { sequence_values };
+
+    fn read(d: &[u8]) -> PatternSequence {
+        PatternSequence {
+            depth: byte_at(d, 0),
+            count: byte_at(d, 1),
+            inversion: byte_at(d, 2),
+            trigger: byte_at(d, 3),
+            delay: Microseconds(long_at(d, 4)),
+            period: Microseconds(long_at(d, 8)),
+            exposure: Microseconds(long_at(d, 12)),
+            led: byte_at(d, 16) as u32,
+        }
+    }
+
+    fn data(self) -> Data {
+        Data::new()
+            .byte(self.depth)
+            .byte(self.count)
+            .byte(self.inversion)
+            .byte(self.trigger)
+            .long(self.delay.0)
+            .long(self.period.0)
+            .long(self.exposure.0)
+            .low(self.led)
+    }
 }

@@ -3,7 +3,7 @@ use Prim.Native.Nat.{ℕ, ◌+◌, ◌<◌, ◌≤◌}
 use mathlib.Core.Path.{◌≡◌, refl, ap, ap₂, sym, subst, ◌∙◌}
 use mathlib.Core.Bool.{Bool, true, false, not, ◌&&◌, ◌||◌, and-false}
 use mathlib.Core.List.{List, [], ◌∷◌, ◌++◌, map, append-nil, append_assoc}
-use mathlib.Core.Option.{Option, none, some}
+use Rattle.std.specs.Prelude.{Option, None, Some}
 use native.Mathlib.Omega.{arith}
 use lib.Dec.{eqb}
 use lib.ListN.{length, take, drop, length-append}
@@ -33,8 +33,6 @@ use Rattle.command.specs.Asking.{Judging, one_packet, judged_as, judge_call, Car
 use Rattle.command.specs.Request5.{OnePacket, judgement_of, Says, Obeys, Alike}
 use Rattle.command.specs.declared.table.Command.{Command}
 use Rattle.command.specs.declared.table.Command.TheVariants.{DisplayMode}
-use Rattle.command.specs.declared.table.Found.{Found}
-use Rattle.command.specs.declared.table.Found.TheVariants.{Known, Unknown}
 use Rattle.command.specs.declared.faults.Codes.{Codes}
 use Rattle.command.specs.declared.transfer.TransferState.{TransferState}
 use Rattle.command.specs.declared.judgement.Judgement.{Judgement}
@@ -99,8 +97,8 @@ brought_out d h b n e (Read c) = refl
 
 -- they say the transfer
 abbrev transfer_by : Option (ℕ × ℕ) → List ℕ → Transfer
-transfer_by none d = Closed
-transfer_by (some c) d = opened_for (command_of c.0 c.1) d
+transfer_by None d = Closed
+transfer_by (Some c) d = opened_for (command_of c.0 c.1) d
 
 by_items : (mode : ℕ) (t : TransferState) (buffer : List ℕ) → transfer_in t buffer ≡ transfer_by (items_in mode t buffer).command (items_in mode t buffer).held
 by_items mode t buffer = bool_cases (eqb t.active 0) (λ e. rw e) (λ e. rw e)
@@ -142,9 +140,9 @@ module _ (c : Controller) (k : Ready c) (p : List ℕ) (lent : JudgementRecord) 
     drawn : forged (record_for j) ≡ false
 
   module _ (codes : Codes) where
-    no_codes : (f : Found) → accepted_as f (record_for (Error codes)) ≡ Error (codes_told 0)
-    no_codes Unknown = refl
-    no_codes (Known d) = refl
+    no_codes : (f : Option Command) → accepted_as f (record_for (Error codes)) ≡ Error (codes_told 0)
+    no_codes None = refl
+    no_codes (Some d) = refl
 
     error_means : meant (record_for (Error codes)) ≡ Error (codes_alone codes)
     unfolding meant
@@ -164,15 +162,15 @@ module _ (c : Controller) (k : Ready c) (p : List ℕ) (lent : JudgementRecord) 
 
   -- what a packet with no fault draws
   abbrev NoFault : Command → Type 0
-  NoFault d = any_fault (faults (Known d) (state_of c).transfer (arrived p)) ≡ false
+  NoFault d = any_fault (faults (Some d) (state_of c).transfer (arrived p)) ≡ false
 
-  module _ (i : IsPacket p) (d : Command) (e : command_of (cmd1_of p) (cmd2_of p) ≡ Known d) (n : NoFault d) where
-    accepted_genuine : (j : Judgement) → mask_in j ≡ 0 → wrong_in j ≡ none → data_for held_data (payload p) j ≡ held_data ++ payload p
-        → accepted_as (Known d) (record_for j) ≡ told j → acceptable (Known d) (record_for j) ≡ true → Genuine j
+  module _ (i : IsPacket p) (d : Command) (e : command_of (cmd1_of p) (cmd2_of p) ≡ Some d) (n : NoFault d) where
+    accepted_genuine : (j : Judgement) → mask_in j ≡ 0 → wrong_in j ≡ None → data_for held_data (payload p) j ≡ held_data ++ payload p
+        → accepted_as (Some d) (record_for j) ≡ told j → acceptable (Some d) (record_for j) ≡ true → Genuine j
     unfolding meant forged drawable
     accepted_genuine j m w x a g =
         let q = rule_parts c.settings c.registers k.rule in
-        let f = fits_hold (Known d) (state_of c).transfer (arrived p) n in
+        let f = fits_hold (Some d) (state_of c).transfer (arrived p) n in
         let s = held_same c k in
         let l : length (data_for held_data (payload p) j) ≡ held_in numbers + payload_length p =
         ap length x ∙ length-append held_data (payload p) ∙ omega (arith, s, payload_length_lem p i.exact) in
@@ -183,14 +181,14 @@ module _ (c : Controller) (k : Ready c) (p : List ℕ) (lent : JudgementRecord) 
         let draws : drawable (record_for j) ≡ true =
         and_both _ _
         (and_both _ _ (and_both _ _ (and_both _ _ (eq-eqb (mask_in j) 0 m) (ap (λ (o : Option ℕ). eqb (wrong_told o) no_wrong) w)) kept) joined)
-        (ap (λ (f : Found). acceptable f (record_for j)) e ∙ g) in
+        (ap (λ (f : Option Command). acceptable f (record_for j)) e ∙ g) in
         record {
           means = rw (m, e) a;
           drawn = ap (λ (b : Bool). uncoded (record_for j) && not b) draws ∙ and-false (uncoded (record_for j));
         }
 
     continues_own : (j : Judgement) → in_order d (record_for j) ≡ true
-    continues_own j = ap (λ (t : Transfer). not (is_open t) || open_for (Known d) t) (open_kept_lem j) ∙ in_order_lem d (state_of c).transfer (arrived p) n
+    continues_own j = ap (λ (t : Transfer). not (is_open t) || open_for (Some d) t) (open_kept_lem j) ∙ in_order_lem d (state_of c).transfer (arrived p) n
 
     asks_only_lem : eqb (type_of p) host_read ≡ true → eqb (length (held_data ++ payload p)) 0 ≡ true → asks_only d (record_for (Read d)) ≡ true
     asks_only_lem r z =
@@ -255,7 +253,7 @@ module _ (c : Controller) (p : List ℕ) (lent : JudgementRecord) (k : Ready c) 
   keeps_items = ap (λ (j : JudgementRecord). items_kept j) record_is ∙ items_kept_lem c k p lent (judged (state_of c) p)
 
 pub judging_says : (c : Controller) (p : List ℕ) (lent : JudgementRecord) → Ready c → OnePacket p
-    → ((judge_call c p lent).refusal ≡ none) × Says c p (judgement_of c p lent)
+    → ((judge_call c p lent).refusal ≡ None) × Says c p (judgement_of c p lent)
 judging_says c p lent k o =
     let e = judge_is c p lent k o in
     let m = judgement_meant c p lent k o in (
@@ -283,7 +281,7 @@ judging_twice c p lent k o =
     let b = data_for (held (state_of c).transfer) (payload p) j in
     judge_is c p (judgement_of c p lent) k o
     ∙ ap (judged_as c p j) (record_is c p lent k o)
-    ∙ ap (λ (x : List ℕ). record { refusal = none; judgement = record { ruling = ruling_for c p j; joined = x } }) (written_twice b lent.joined)
+    ∙ ap (λ (x : List ℕ). record { refusal = None; judgement = record { ruling = ruling_for c p j; joined = x } }) (written_twice b lent.joined)
     ∙ sym (judge_is c p lent k o)
 
 -- Carrying it out, on a head d that has the items.

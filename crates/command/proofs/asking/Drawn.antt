@@ -3,7 +3,7 @@ use Prim.Native.Nat.{ℕ, ◌+◌, ◌%◌, ◌<◌, ◌≤◌}
 use mathlib.Core.Path.{◌≡◌, refl, ap, sym, ◌∙◌}
 use mathlib.Core.Bool.{Bool, true, false, cond, not, ◌&&◌, ◌||◌, and-false}
 use mathlib.Core.List.{List, [], ◌∷◌, ◌++◌}
-use mathlib.Core.Option.{none}
+use Rattle.std.specs.Prelude.{Option, None, Some}
 use native.Mathlib.Omega.{arith}
 use lib.Dec.{eqb, leb}
 use lib.ListN.{length, take, length-drop, take-append-drop}
@@ -35,8 +35,6 @@ use Rattle.command.specs.Asking.{Judging, judge_call}
 use Rattle.command.specs.Request5.{Made, Drawn}
 use Rattle.command.specs.declared.table.Command.{Command}
 use Rattle.command.specs.declared.table.Command.TheVariants.{DisplayMode}
-use Rattle.command.specs.declared.table.Found.{Found}
-use Rattle.command.specs.declared.table.Found.TheVariants.{Known, Unknown}
 use Rattle.command.specs.declared.controller.Controller.{Controller}
 use Rattle.command.specs.declared.transfer.TransferState.{TransferState}
 use Rattle.command.specs.declared.judgement.Judgement.{Judgement}
@@ -60,7 +58,7 @@ written_same n d h = rw (length-take-le n d h) (take-append-drop n d)
 -- A judgement that says how a packet is accepted has no code, names no byte, and joins the data.
 record Plain (j : Judgement) : Type 0 where
   codes : mask_in j ≡ 0
-  wrong : wrong_in j ≡ none
+  wrong : wrong_in j ≡ None
   joins : (h d : List ℕ) → data_for h d j ≡ h ++ d
 
 plain : (j : Judgement) → eqb (acceptance j) 0 ≡ false → Plain j
@@ -131,11 +129,11 @@ ruling_eq : (n : Ruling) {codes accepts wrong count cmd1 cmd2 : ℕ} {kept : Kep
 ruling_eq n e1 e2 e3 e4 e5 e6 e7 = rw (e1, e2, e3, e4, e5, e6, e7)
 
 judging_eq : (j : JudgementRecord) {n : Ruling} {d : List ℕ} → n ≡ j.ruling → d ≡ j.joined
-    → ◌≡◌ {A = Judging} (record { refusal = none; judgement = record { ruling = n; joined = d } }) (record { refusal = none; judgement = j })
+    → ◌≡◌ {A = Judging} (record { refusal = None; judgement = record { ruling = n; joined = d } }) (record { refusal = None; judgement = j })
 judging_eq j e f = rw (e, f)
 
 module _ (j : JudgementRecord) (m : Made j) (z : j.ruling.codes ≡ 0) (v : j.ruling.wrong ≡ no_wrong) (k : kept_in_rule j ≡ true) (b : joined_in_rule j ≡ true)
-    (c : Command) (e : command_for j ≡ Known c) where
+    (c : Command) (e : command_for j ≡ Some c) where
   abbrev numbers : TransferState
   numbers = transfer_kept j
 
@@ -164,12 +162,12 @@ module _ (j : JudgementRecord) (m : Made j) (z : j.ruling.codes ≡ 0) (v : j.ru
       ∙ take-append-drop (held_in numbers) (joined_in j)
 
   -- a packet that brings them, with no fault of the first group
-  module _ (type flags : ℕ) (w : wrong_command (Known c) type ≡ false)
-      (o : wrong_order (is_open_in numbers) (open_for_in (Known c) numbers) type flags ≡ false) where
+  module _ (type flags : ℕ) (w : wrong_command (Some c) type ≡ false)
+      (o : wrong_order (is_open_in numbers) (open_for_in (Some c) numbers) type flags ≡ false) where
     abbrev bringer : List ℕ
     bringer = packet_of type j.ruling.cmd1 j.ruling.cmd2 flags (brought_in j)
 
-    no_faults_lem : any_fault (faults_of (Known c) (is_open_in numbers) (open_for_in (Known c) numbers) (held_in numbers) type flags (length (brought_in j)) true)
+    no_faults_lem : any_fault (faults_of (Some c) (is_open_in numbers) (open_for_in (Some c) numbers) (held_in numbers) type flags (length (brought_in j)) true)
         ≡ false
     unfolding any_fault faults_of too_long
     no_faults_lem =
@@ -187,7 +185,7 @@ module _ (j : JudgementRecord) (m : Made j) (z : j.ruling.codes ≡ 0) (v : j.ru
         let p : Arrived = packet_with type j.ruling.cmd1 j.ruling.cmd2 flags (brought_in j) in
         ap (λ (x : Arrived). judge j.ruling.kept.mode (open_kept j) x)
         (arrived_written type j.ruling.cmd1 j.ruling.cmd2 flags (brought_in j) (omega (arith, brought_small)))
-        ∙ rw (e, faults_are numbers in_rule_lem j.joined m.size (Known c) p, no_faults_lem, held_is numbers in_rule_lem j.joined, joined_is)
+        ∙ rw (e, faults_are numbers in_rule_lem j.joined m.size (Some c) p, no_faults_lem, held_is numbers in_rule_lem j.joined, joined_is)
 
     -- it draws the record, if it is accepted so
     drawn_by : (x : Judgement) → judge_data c j.ruling.kept.mode type flags (joined_in j) ≡ x
@@ -239,9 +237,9 @@ module _ (j : JudgementRecord) (m : Made j) (z : j.ruling.codes ≡ 0) (v : j.ru
       → Drawn j
   unfolding judge_data wrong_command
   drawn_write complete o x y a n =
-      let ours : (not (is_open_in numbers) || open_for_in (Known c) numbers) ≡ true =
-      rw (open_kept_lem, open_for_is numbers in_rule_lem j.joined (Known c)) at o in
-      let f = flags_for_lem complete (is_open_in numbers) (open_for_in (Known c) numbers) ours in
+      let ours : (not (is_open_in numbers) || open_for_in (Some c) numbers) ≡ true =
+      rw (open_kept_lem, open_for_is numbers in_rule_lem j.joined (Some c)) at o in
+      let f = flags_for_lem complete (is_open_in numbers) (open_for_in (Some c) numbers) ours in
       drawn_by host_write (flags_for complete (is_open_in numbers)) refl f.1 x (rw f.0 y) a n (omega arith) f.2
 
   drawn_read : eqb j.ruling.accepts reads ≡ true → asks_only c j ≡ true → Drawn j
@@ -252,7 +250,7 @@ module _ (j : JudgementRecord) (m : Made j) (z : j.ruling.codes ≡ 0) (v : j.ru
       let empty : length (joined_in j) ≡ 0 = count_is ∙ eqb-true j.ruling.count 0 (and_right (not (is_open (open_kept j)) && readable c) _ a) in
       drawn_by host_read whole (rw (and_right (not (is_open (open_kept j))) (readable c) first)) (rw closed) (Read c) (rw empty) r refl (omega arith) (omega arith)
 
-  drawn_accepted : acceptable (Known c) j ≡ true → Drawn j
+  drawn_accepted : acceptable (Some c) j ≡ true → Drawn j
   unfolding judge_write
   drawn_accepted =
       let sized = eqb (length (joined_in j)) (size_of c) in
@@ -280,8 +278,8 @@ found_drawn j m h = go (command_for j) refl (and_right first _ h)
     first : Bool
     first = eqb j.ruling.codes 0 && eqb j.ruling.wrong no_wrong && kept_in_rule j && joined_in_rule j
 
-    go : (f : Found) → command_for j ≡ f → acceptable f j ≡ true → Drawn j
-    go Unknown e a = never a
-    go (Known c) e a =
+    go : (f : Option Command) → command_for j ≡ f → acceptable f j ≡ true → Drawn j
+    go None e a = never a
+    go (Some c) e a =
         let r = all_of_four (eqb j.ruling.codes 0) (eqb j.ruling.wrong no_wrong) (kept_in_rule j) (joined_in_rule j) (and_left first _ h) in
         drawn_accepted j m (eqb-true j.ruling.codes 0 r.0) (eqb-true j.ruling.wrong no_wrong r.1) r.2 r.3 c e a

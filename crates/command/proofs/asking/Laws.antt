@@ -3,32 +3,28 @@ use Prim.Native.Nat.{ℕ, ◌≤◌}
 use mathlib.Core.Path.{◌≡◌, refl, ◌∙◌}
 use mathlib.Core.Bool.{true, false}
 use mathlib.Core.List.{List, ◌++◌}
-use mathlib.Core.Option.{none}
+use Rattle.std.specs.Prelude.{None, Some}
 use native.Mathlib.Nat.{zero-add}
 use native.Mathlib.Omega.{arith}
 use lib.ListN.{length, length-append}
 use lib.Seq.{sets}
 use borrow.Author.Tests.{eq-eqb}
-use Rattle.packet.specs.Packet.{cmd1_of, cmd2_of, payload, error}
+use Rattle.packet.specs.Packet.{cmd1_of, cmd2_of, payload}
 use Rattle.packet.specs.Stream.{size, has_packet}
 use Rattle.packet.specs.Writer.{written}
 use Rattle.packet.proofs.BytesLaws.{sets_append, sets_front}
 use Rattle.command.specs.Transfer.{Transfer, held}
 use Rattle.command.specs.Faults.{Arrived, arrived}
 use Rattle.command.specs.Judgement.{judge}
-use Rattle.command.specs.Response.{response_type}
 use Rattle.command.specs.Player.{judged}
-use Rattle.command.specs.Controller.{transfer_of, transfer_in, in_rule, parts_in_rule}
+use Rattle.command.specs.Controller.{transfer_of, transfer_in, in_rule}
 use Rattle.command.specs.Ruling.{data_for, ruling_of}
 use Rattle.command.specs.Asking.{Judging, one_packet, refused_with, judge_call}
-use Rattle.command.specs.Lent.{without_hold, record_of}
-use Rattle.command.specs.Inner.{held_by}
-use Rattle.command.specs.declared.table.Found.TheVariants.{Known}
-use Rattle.command.specs.declared.settings.Settings.{Settings}
+use Rattle.command.specs.Inner.{held_by, record_of}
 use Rattle.command.specs.declared.transfer.TransferState.{TransferState}
+use Rattle.command.specs.declared.faults.Codes.{Codes}
 use Rattle.command.specs.declared.judgement.Judgement.{Judgement}
 use Rattle.command.specs.declared.judgement.Judgement.TheVariants.{Error, Hold, Write, Read}
-use Rattle.command.specs.declared.controller.Registers.{Registers}
 use Rattle.command.specs.declared.controller.Controller.{Controller}
 use Rattle.command.specs.declared.ruling.Ruling.{Ruling}
 use Rattle.command.specs.declared.ruling.JudgementRecord.{JudgementRecord}
@@ -37,15 +33,8 @@ use Rattle.command.proofs.judgement.Laws.{judge_cases}
 use Rattle.command.proofs.controller.Laws.{rule_parts}
 
 -- The data that a judgement holds: with an error those that were held, else the packet's too.
-
-pub data_error : (h b : List ℕ) (j : Judgement) → response_type j ≡ error → data_for h b j ≡ h
-data_error h b (Error k) e = refl
-data_error h b (Hold c) e = absurd (omega arith)
-data_error h b (Write v) e = absurd (omega arith)
-data_error h b (Read c) e = absurd (omega arith)
-
-pub data_accepted : (h b : List ℕ) (j : Judgement) → (response_type j ≡ error → ⊥) → data_for h b j ≡ h ++ b
-data_accepted h b (Error k) e = absurd (e refl)
+pub data_accepted : (h b : List ℕ) (j : Judgement) → ((k : Codes) → j ≡ Error k → ⊥) → data_for h b j ≡ h ++ b
+data_accepted h b (Error k) e = absurd (e k refl)
 data_accepted h b (Hold c) e = refl
 data_accepted h b (Write v) e = refl
 data_accepted h b (Read c) e = refl
@@ -55,7 +44,7 @@ pub data_fit : (mode : ℕ) (t : Transfer) (p : Arrived) → length (held t) ≤
 data_fit mode t p h n =
     judge_cases (λ (j : Judgement). length (data_for (held t) p.body j) ≤ 1024) mode t p (λ _. h)
     (λ c k e.
-    let f : length (held t ++ p.body) ≤ 1024 = omega (arith, length-append (held t) p.body, fits_hold (Known c) t p e) in
+    let f : length (held t ++ p.body) ≤ 1024 = omega (arith, length-append (held t) p.body, fits_hold (Some c) t p e) in
     record {
       hold = λ _. f;
       read = λ _ _ _. f;
@@ -86,21 +75,22 @@ pub not_one : (c : Controller) (b : List ℕ) (lent : JudgementRecord) → in_ru
 unfolding judge_call
 not_one c b lent h g = rw (h, g)
 
--- it does not look at the payload of a packet that is coming in
-pub hold_unseen : (c : Controller) (b : List ℕ) (lent : JudgementRecord) → judge_call (without_hold c.settings c.registers c.buffer) b lent ≡ judge_call c b lent
+-- The judge call does not look at the payload of a packet that is coming in: any other in its place draws the same.
+pub hold_unseen : (c : Controller) (hold b : List ℕ) (lent : JudgementRecord)
+    → judge_call (record { settings = c.settings; registers = c.registers; buffer = c.buffer; hold = hold }) b lent ≡ judge_call c b lent
 unfolding judge_call
-hold_unseen c b lent = refl
+hold_unseen c hold b lent = refl
 
 -- and the judgement of one packet
-module _ (s : Settings) (r : Registers) (buffer b lent : List ℕ) (n : Ruling) (rule : parts_in_rule s r ≡ true) (packet : has_packet b ≡ true) (whole : size b ≡ length b) where
+module _ (c : Controller) (b lent : List ℕ) (n : Ruling) (rule : in_rule c ≡ true) (packet : has_packet b ≡ true) (whole : size b ≡ length b) where
   pub judges : {t : TransferState} {body : List ℕ} {j : Judgement} {count : ℕ} {joined : List ℕ} {m : Ruling}
-      → t ≡ transfer_of r
+      → t ≡ transfer_of c.registers
       → body ≡ payload b
-      → j ≡ judge s.mode (transfer_in t buffer) (arrived b)
-      → count ≡ length (data_for (held_by t buffer) body j)
-      → joined ≡ written (data_for (held_by t buffer) body j) lent
-      → m ≡ ruling_of s r (cmd1_of b) (cmd2_of b) count j
-      → ◌≡◌ {A = Judging} record { refusal = none; judgement = record_of m joined } (judge_call (without_hold s r buffer) b (record_of n lent))
+      → j ≡ judge c.settings.mode (transfer_in t c.buffer) (arrived b)
+      → count ≡ length (data_for (held_by t c.buffer) body j)
+      → joined ≡ written (data_for (held_by t c.buffer) body j) lent
+      → m ≡ ruling_of c.settings c.registers (cmd1_of b) (cmd2_of b) count j
+      → ◌≡◌ {A = Judging} record { refusal = None; judgement = record_of m joined } (judge_call c b (record_of n lent))
   unfolding judge_call one_packet judged
   judges et eb ej ec ed em =
-      rw (em, ed, ec, ej, eb, et, rule, packet, eq-eqb (size b) (length b) whole, held_is (transfer_of r) (rule_parts s r rule).transfer buffer)
+      rw (em, ed, ec, ej, eb, et, rule, packet, eq-eqb (size b) (length b) whole, held_is (transfer_of c.registers) (rule_parts c.settings c.registers rule).transfer c.buffer)

@@ -5,7 +5,7 @@ use mathlib.Core.Logic.{◌↔◌, ◌⊎◌, inl, inr, ⊎_elim}
 use mathlib.Core.Bool.{Bool, true, false, not, ◌&&◌}
 use mathlib.Core.List.Memᴰ
 use mathlib.Core.List.{List, [], ◌∷◌, Memᴰ}
-use mathlib.Core.Option.{Option, none, some}
+use Rattle.std.specs.Prelude.{Option, None, Some}
 use native.Mathlib.Omega.{arith}
 use lib.Dec.{eqb}
 use lib.ListN.{length}
@@ -48,10 +48,10 @@ one_exactly b = (forth, λ o. one_packet_lem b (is_packet b o))
         (alone b (record { least = omega (arith, seven b); exact = e })).0
 
 -- one number is not another
-number : {k n : ℕ} → ◌≡◌ {A = Option ℕ} (some k) (some n) → k ≡ n
+number : {k n : ℕ} → ◌≡◌ {A = Option ℕ} (Some k) (Some n) → k ≡ n
 number h = cc
 
-no_number : {n : ℕ} → ◌≡◌ {A = Option ℕ} none (some n) → ⊥
+no_number : {n : ℕ} → ◌≡◌ {A = Option ℕ} None (Some n) → ⊥
 no_number h = let z : ◌≡◌ {A = ℕ} 0 1 = cc in omega arith
 
 -- The judge call: the ways it goes.
@@ -71,22 +71,22 @@ module _ (c : Controller) (b : List ℕ) (lent : JudgementRecord) where
       (λ r. out ((controller_out c).0 r))
 
   -- `Request5.rule`, `one` and `refuses`
-  pub asked_rule : ((judge_call c b lent).refusal ≡ some 3) ↔ OutOfRule c
+  pub asked_rule : ((judge_call c b lent).refusal ≡ Some 3) ↔ OutOfRule c
   asked_rule = (
-    asked_ways (λ x. x.refusal ≡ some 3 → OutOfRule c) (λ o _. o) (λ _ _ h. absurd (omega (arith, number h))) (λ _ _ h. absurd (no_number h)),
-    λ o. asked_ways (λ x. x.refusal ≡ some 3) (λ _. refl) (λ h _. absurd (h o)) (λ h _. absurd (h o)),
+    asked_ways (λ x. x.refusal ≡ Some 3 → OutOfRule c) (λ o _. o) (λ _ _ h. absurd (omega (arith, number h))) (λ _ _ h. absurd (no_number h)),
+    λ o. asked_ways (λ x. x.refusal ≡ Some 3) (λ _. refl) (λ h _. absurd (h o)) (λ h _. absurd (h o)),
   )
 
-  pub asked_one : ((judge_call c b lent).refusal ≡ some 5) ↔ ((OutOfRule c → ⊥) × (OnePacket b → ⊥))
+  pub asked_one : ((judge_call c b lent).refusal ≡ Some 5) ↔ ((OutOfRule c → ⊥) × (OnePacket b → ⊥))
   asked_one = (
-    asked_ways (λ x. x.refusal ≡ some 5 → (OutOfRule c → ⊥) × (OnePacket b → ⊥))
+    asked_ways (λ x. x.refusal ≡ Some 5 → (OutOfRule c → ⊥) × (OnePacket b → ⊥))
         (λ _ h. absurd (omega (arith, number h))) (λ o p _. (o, p)) (λ _ _ h. absurd (no_number h)),
-    λ h. asked_ways (λ x. x.refusal ≡ some 5) (λ o. absurd (h.0 o)) (λ _ _. refl) (λ _ o. absurd (h.1 o)),
+    λ h. asked_ways (λ x. x.refusal ≡ Some 5) (λ o. absurd (h.0 o)) (λ _ _. refl) (λ _ o. absurd (h.1 o)),
   )
 
-  pub asked_refuses : (n : ℕ) → (judge_call c b lent).refusal ≡ some n → ((n ≡ 3) ⊎ (n ≡ 5)) × (judgement_of c b lent ≡ lent)
+  pub asked_refuses : (n : ℕ) → (judge_call c b lent).refusal ≡ Some n → ((n ≡ 3) ⊎ (n ≡ 5)) × (judgement_of c b lent ≡ lent)
   asked_refuses n =
-      asked_ways (λ x. x.refusal ≡ some n → ((n ≡ 3) ⊎ (n ≡ 5)) × (x.judgement ≡ lent))
+      asked_ways (λ x. x.refusal ≡ Some n → ((n ≡ 3) ⊎ (n ≡ 5)) × (x.judgement ≡ lent))
       (λ _ h. (inl (sym (number h)), refl)) (λ _ _ h. (inr (sym (number h)), refl)) (λ _ _ h. absurd (no_number h))
 
 -- The codes of a record are the bits of its number: the numbers from i on, k of them, that pass a test.
@@ -139,7 +139,7 @@ nil_test (x ∷ l) = (λ h. never h, λ h. let z : ◌≡◌ {A = ℕ} 0 1 = cc 
 drawn_genuine : (j : JudgementRecord) → Drawn j → forged j ≡ false
 drawn_genuine j g =
     let one : OnePacket g.packet =
-    asked_ways g.controller g.packet j (λ x. x.refusal ≡ none → OnePacket g.packet)
+    asked_ways g.controller g.packet j (λ x. x.refusal ≡ None → OnePacket g.packet)
     (λ o. absurd (let_pass g.controller g.ready.rule o)) (λ _ _ h. absurd (no_number (sym h))) (λ _ o _. o)
     (ap (λ (x : Judging). x.refusal) g.draws) in
     ap forged (sym (ap (λ (x : Judging). x.judgement) g.draws)) ∙ never_forged g.controller g.packet j g.ready one

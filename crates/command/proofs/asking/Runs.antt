@@ -1,5 +1,6 @@
 -- The call that carries out a judgement, whatever judgement is handed in: the half-received packet stays, a head in rule stays in rule, and the bytes that
 -- come afterwards are judged as document 01 judges them.
+use Rattle.std.specs.Prelude.{Option, None, Some}
 use Prim.Native.Nat.{ℕ, ◌+◌, ◌≤◌}
 use mathlib.Core.Path.{◌≡◌, refl, ap, sym, subst, ◌∙◌}
 use mathlib.Core.Bool.{true, false, not, ◌&&◌}
@@ -31,8 +32,6 @@ use Rattle.command.specs.Demand2.{Follows}
 use Rattle.command.specs.Request5.{HalfReceived}
 use Rattle.command.specs.Asking.{Carrying, carries, carry_call}
 use Rattle.command.specs.declared.table.Command.{Command}
-use Rattle.command.specs.declared.table.Found.{Found}
-use Rattle.command.specs.declared.table.Found.TheVariants.{Known, Unknown}
 use Rattle.command.specs.declared.judgement.Judgement.{Judgement}
 use Rattle.command.specs.declared.judgement.Judgement.TheVariants.{Write}
 use Rattle.command.specs.declared.controller.Controller.{Controller}
@@ -101,9 +100,9 @@ module _ (j : JudgementRecord) where
         free = not-true (blocked c v j.ruling.kept.mode) (and_right (n && a) b w);
       })
 
-  accepted_may : (f : Found) → command_for j ≡ f → Claim (accepted_as f j)
-  accepted_may Unknown e = λ _. (tt, tt)
-  accepted_may (Known c) e =
+  accepted_may : (f : Option Command) → command_for j ≡ f → Claim (accepted_as f j)
+  accepted_may None e = λ _. (tt, tt)
+  accepted_may (Some c) e =
       cond_cases Claim (eqb j.ruling.accepts holds)
       (λ _ d. (tt, room (d refl)))
       (λ a. cond_cases Claim (eqb j.ruling.accepts writes)

@@ -4,7 +4,7 @@ use mathlib.Core.Path.{◌≡◌, refl, ap, sym, ◌∙◌}
 use mathlib.Core.Logic.{◌↔◌}
 use mathlib.Core.Bool.{Bool, true, false, ◌&&◌}
 use mathlib.Core.List.{List}
-use mathlib.Core.Option.{Option, none, some}
+use Rattle.std.specs.Prelude.{Option, None, Some}
 use lib.Dec.{eqb, ltb}
 use lib.ListN.{length}
 use borrow.Author.Tests.{ltb-true, ltb-false, eq-eqb, eqb-true}
@@ -29,21 +29,21 @@ all_of_four a b c d h =
 -- The same kept items.
 
 command_self : (c : Option (ℕ × ℕ)) → same_command c c ≡ true
-command_self none = refl
-command_self (some c) = and_both _ _ (eq-eqb c.0 c.0 refl) (eq-eqb c.1 c.1 refl)
+command_self None = refl
+command_self (Some c) = and_both _ _ (eq-eqb c.0 c.0 refl) (eq-eqb c.1 c.1 refl)
 
 pub same_self : (i : Items) → same_items i i ≡ true
 unfolding same_items
 same_self i = rw (eq-eqb i.mode i.mode refl, command_self i.command, eq-eqb i.count i.count refl, list_refl i.held)
 
 same_command_lem : (x y : Option (ℕ × ℕ)) → same_command x y ≡ true → x ≡ y
-same_command_lem none none h = refl
-same_command_lem none (some d) h = never h
-same_command_lem (some c) none h = never h
-same_command_lem (some c) (some d) h =
+same_command_lem None None h = refl
+same_command_lem None (Some d) h = never h
+same_command_lem (Some c) None h = never h
+same_command_lem (Some c) (Some d) h =
     let a : c.0 ≡ d.0 = eqb-true c.0 d.0 (and_left _ (eqb c.1 d.1) h) in
     let b : c.1 ≡ d.1 = eqb-true c.1 d.1 (and_right (eqb c.0 d.0) _ h) in
-    ap some (pair_eq a b)
+    ap Some (pair_eq a b)
   where
     pair_eq : c.0 ≡ d.0 → c.1 ≡ d.1 → c ≡ d
     pair_eq a b = λ i. (a i, b i)

@@ -1,4 +1,5 @@
 -- Carrying out a judgement by the controller's numbers: it is what document 01 says of the transfer, and the transfer stays in rule.
+use Rattle.std.specs.Prelude.{Some}
 use Prim.Native.Nat.{ℕ, ◌+◌, ◌<◌, ◌≤◌}
 use mathlib.Core.Path.{◌≡◌, refl, ap, sym, ◌∙◌}
 use mathlib.Core.Bool.{true}
@@ -12,7 +13,6 @@ use Rattle.command.specs.Faults.{Arrived}
 use Rattle.command.specs.Judgement.{judge}
 use Rattle.command.specs.Carry.{transfer_after}
 use Rattle.command.specs.Controller.{held_in, transfer_in, transfer_in_rule, transfer_state_after, buffer_after}
-use Rattle.command.specs.declared.table.Found.TheVariants.{Known}
 use Rattle.command.specs.declared.transfer.TransferState.{TransferState}
 use Rattle.command.specs.declared.judgement.Judgement.{Judgement}
 use Rattle.command.specs.declared.judgement.Judgement.TheVariants.{Error, Hold, Write, Read}
@@ -32,7 +32,7 @@ pub bounded : (mode : ℕ) (t : Transfer) (p : Arrived) → Bounded (length (hel
 bounded mode t p =
     judge_cases (Bounded (length (held t) + p.size)) mode t p (λ _. tt)
     (λ c k e. record {
-      hold = λ _. fits_hold (Known c) t p e;
+      hold = λ _. fits_hold (Some c) t p e;
       read = λ _ _ _. tt;
       asked = λ _ _ _. tt;
       size = λ _ _ _. tt;

@@ -1,14 +1,14 @@
 -- What a record means by the code's steps, the kept items by the code's tests, and what carrying out leaves.
-use Prim.Native.Nat.{ℕ, ◌+◌, ◌-◌, ◌<◌, ◌≤◌}
+use Prim.Native.Nat.{ℕ, ◌+◌, ◌-◌, ◌≤◌}
 use mathlib.Core.Path.{◌≡◌, refl, ap, sym, ◌∙◌}
-use mathlib.Core.Bool.{true, false, cond, ◌&&◌, ◌||◌, and_assoc, and-true, and-false, not-not}
+use Rattle.std.specs.Cmp.Lexicographic.{pointwise}
+use mathlib.Core.Bool.{Bool, true, false, cond, ◌&&◌, ◌||◌, and_assoc, and-true, and-false, not-not}
 use mathlib.Core.List.{List, [], ◌∷◌, ◌++◌}
-use mathlib.Core.Option.{Option, none, some}
-use native.Mathlib.Numerals.{add-one}
+use Rattle.std.specs.Prelude.{Option, None, Some}
 use native.Mathlib.Omega.{arith}
-use lib.Dec.{eqb, ltb, leb}
-use lib.ListN.{length, take, drop, get_or}
-use lib.Seq.{drop-cons, length-take-le, take-add, drop_at}
+use lib.Dec.{eqb, leb, ltb}
+use lib.ListN.{length, take, drop}
+use lib.Seq.{length-take-le, take-add, drop_at}
 use borrow.Author.Tests.{eqb-true, leb-true, le-ltb, not-false}
 use Rattle.packet.proofs.Cases.{bool_cases, and_left, and_right}
 use Rattle.command.specs.Table.{command_of, layout, size_of}
@@ -18,19 +18,17 @@ use Rattle.command.specs.Value.{value_from}
 use Rattle.command.specs.Faults.{codes_of, list_if}
 use Rattle.command.specs.Judgement.{judge_write}
 use Rattle.command.specs.Response.{codes_in}
-use Rattle.command.specs.Controller.{transfer_of, held_in, transfer_in_rule, transfer_state_after, buffer_after, in_rule}
+use Rattle.command.specs.Controller.{receiver_in, transfer_of, held_in, transfer_in_rule, transfer_state_after, buffer_after, in_rule}
 use Rattle.command.specs.Ruling.{codes_told, acceptable, accepted_as, command_for, in_order, writable, brought_in, meant, drawable, forged, items_in, items_of, items_kept, same_items, same_command, holds, writes, reads, no_wrong, transfer_of_kept}
-use Rattle.command.specs.Lent.{controller_of, without_hold, record_of, performed_of}
-use Rattle.command.specs.Asking.{response_for, carries, carry_call}
-use Rattle.command.specs.Inner.{open_for_in, ruling_in_rule, if_write, accepted_by, any_code, same_numbers, Carries}
+use Rattle.packet.specs.Writer.{written}
+use Rattle.command.specs.Response.{response_to}
+use Rattle.command.specs.Encoder.{Writes}
+use Rattle.command.specs.Endpoint.{carried_out}
+use Rattle.command.specs.Asking.{response_for, carry_call}
+use Rattle.command.specs.Inner.{open_for_in, ruling_in_rule, if_write, accepted_by, any_code, same_numbers, record_of}
 use Rattle.command.specs.declared.table.Command.{Command}
 use Rattle.command.specs.declared.table.Command.TheVariants.{DisplayMode}
-use Rattle.command.specs.declared.table.Found.{Found}
-use Rattle.command.specs.declared.table.Found.TheVariants.{Known, Unknown}
-use Rattle.command.specs.declared.settings.Settings.{Settings}
-use Rattle.command.specs.declared.controller.Registers.{Registers}
 use Rattle.command.specs.declared.controller.Controller.{Controller}
-use Rattle.command.specs.declared.carrying.Performed.{Performed}
 use Rattle.command.specs.declared.transfer.TransferState.{TransferState}
 use Rattle.command.specs.declared.judgement.Judgement.{Judgement}
 use Rattle.command.specs.declared.judgement.Judgement.TheVariants.{Error, Write, Read, Hold}
@@ -39,11 +37,13 @@ use Rattle.command.specs.declared.ruling.JudgementRecord.{JudgementRecord}
 use Rattle.command.proofs.faults.Laws.{any_code_lem}
 use Rattle.command.proofs.transfer.Laws.{open_is, open_for_is}
 
--- Bytes from a place on are the same where the two at it are, and those behind them.
-pub same_more : (a b : List ℕ) (i : ℕ) → length a ≡ length b → i < length a
-    → same_list (drop i a) (drop i b) ≡ (eqb (get_or a i 0) (get_or b i 0) && same_list (drop (i + 1) a) (drop (i + 1) b))
+-- equality of bytes, as `==` on slices has it
+pub same_bytes : (a b : List ℕ) → pointwise eqb a b ≡ same_list a b
 unfolding same_list
-same_more a b i l h = let k : i < length b = omega arith in rw (add-one, drop-cons a i 0, drop-cons b i 0)
+same_bytes [] [] = refl
+same_bytes [] (y ∷ b) = refl
+same_bytes (x ∷ a) [] = refl
+same_bytes (x ∷ a) (y ∷ b) = ap (λ (t : Bool). eqb x y && t) (same_bytes a b)
 
 -- The kept items.
 
@@ -72,34 +72,34 @@ same_items_lem m n t k a b =
 
 -- what it draws, unless it is forged
 abbrev pub drawn : JudgementRecord → Option Judgement
-drawn j = cond (forged j) none (some (meant j))
+drawn j = cond (forged j) None (Some (meant j))
 
-pub drawn_none : (j : JudgementRecord) → none ≡ drawn j → forged j ≡ true
+pub drawn_none : (j : JudgementRecord) → None ≡ drawn j → forged j ≡ true
 drawn_none j h = bool_cases (forged j) (λ e. e) (λ e. let g = rw e at h in cc)
 
-pub drawn_some : (j : JudgementRecord) (m : Judgement) → some m ≡ drawn j → (forged j ≡ false) × (m ≡ meant j)
+pub drawn_some : (j : JudgementRecord) (m : Judgement) → Some m ≡ drawn j → (forged j ≡ false) × (m ≡ meant j)
 drawn_some j m h = bool_cases (forged j) (λ e. let g = rw e at h in let z : ◌≡◌ {A = ℕ} 0 1 = cc in absurd (omega arith)) (λ e. let g = rw e at h in (e, cc))
 
 -- a record with codes, of which one may be known
 pub drawn_told : (n : Ruling) (d : List ℕ) → eqb n.codes 0 ≡ false
-    → drawn (record_of n d) ≡ cond (any_code (codes_told n.codes)) (some (Error (codes_told n.codes))) none
+    → drawn (record_of n d) ≡ cond (any_code (codes_told n.codes)) (Some (Error (codes_told n.codes))) None
 unfolding forged meant drawable
 drawn_told n d e =
     rw (e, any_code_lem (codes_told n.codes), and-true)
     (bool_cases (any_code (codes_told n.codes)) (λ f. rw f) (λ f. rw f))
 
 -- one without has none in its meaning
-pub no_codes : (f : Found) (j : JudgementRecord) → codes_in (accepted_as f j) ≡ []
+pub no_codes : (f : Option Command) (j : JudgementRecord) → codes_in (accepted_as f j) ≡ []
 unfolding codes_told codes_of list_if
-no_codes Unknown j = refl
-no_codes (Known c) j =
+no_codes None j = refl
+no_codes (Some c) j =
     bool_cases (eqb j.ruling.accepts holds) (λ e. rw e)
     (λ e. rw e (bool_cases (eqb j.ruling.accepts writes) (λ f. rw f)
     (λ f. rw f (bool_cases (eqb j.ruling.accepts reads) (λ g. rw g) (λ g. rw g)))))
 
 -- a write is judged so exactly where it is writable
 write_is : (c : Command) (mode : ℕ) (d : List ℕ)
-    → if_write (judge_write c mode d) ≡ cond (writable c mode d) (some (Write (value_from c (split_all (layout c) d)))) none
+    → if_write (judge_write c mode d) ≡ cond (writable c mode d) (Some (Write (value_from c (split_all (layout c) d)))) None
 unfolding judge_write
 write_is c mode d =
     bool_cases (eqb (length d) (size_of c))
@@ -134,37 +134,37 @@ module _ (n : Ruling) (d : List ℕ) where
 
   -- a record without codes is drawn where they hold
   drawn_is : eqb n.codes 0 ≡ true
-      → drawn (record_of n d) ≡ cond (ruling_in_rule n && acceptable (command_for (record_of n d)) (record_of n d)) (some (accepted_as (command_for (record_of n d)) (record_of n d))) none
+      → drawn (record_of n d) ≡ cond (ruling_in_rule n && acceptable (command_for (record_of n d)) (record_of n d)) (Some (accepted_as (command_for (record_of n d)) (record_of n d))) None
   unfolding forged meant
   drawn_is e =
       rw (drawable_is, e, no_codes (command_for (record_of n d)) (record_of n d))
       (bool_cases (ruling_in_rule n && acceptable (command_for (record_of n d)) (record_of n d)) (λ f. rw f) (λ f. rw f))
 
-  pub drawn_out : eqb n.codes 0 ≡ true → ruling_in_rule n ≡ false → drawn (record_of n d) ≡ none
+  pub drawn_out : eqb n.codes 0 ≡ true → ruling_in_rule n ≡ false → drawn (record_of n d) ≡ None
   drawn_out e r = drawn_is e ∙ rw r
 
-  pub drawn_unknown : eqb n.codes 0 ≡ true → command_of n.cmd1 n.cmd2 ≡ Unknown → drawn (record_of n d) ≡ none
+  pub drawn_unknown : eqb n.codes 0 ≡ true → command_of n.cmd1 n.cmd2 ≡ None → drawn (record_of n d) ≡ None
   drawn_unknown e u = drawn_is e ∙ rw (u, and-false (ruling_in_rule n))
 
   -- for a command
   module _ (c : Command) (r : transfer_in_rule (transfer_of_kept n.kept) ≡ true) where
-    in_order_is : in_order c (record_of n d) ≡ (eqb n.kept.active 0 || open_for_in (Known c) (transfer_of_kept n.kept))
+    in_order_is : in_order c (record_of n d) ≡ (eqb n.kept.active 0 || open_for_in (Some c) (transfer_of_kept n.kept))
     in_order_is =
         let t = transfer_of_kept n.kept in
-        rw (open_is t r d, open_for_is t r d (Known c), not-not (eqb n.kept.active 0))
+        rw (open_is t r d, open_for_is t r d (Some c), not-not (eqb n.kept.active 0))
 
-    accepted_is : accepted_by c n (take n.count d) ≡ cond (acceptable (Known c) (record_of n d)) (some (accepted_as (Known c) (record_of n d))) none
+    accepted_is : accepted_by c n (take n.count d) ≡ cond (acceptable (Some c) (record_of n d)) (Some (accepted_as (Some c) (record_of n d))) None
     accepted_is =
         bool_cases (eqb n.accepts holds)
         (λ e. rw (eqb-true n.accepts holds e, in_order_is))
         (λ e. rw e (bool_cases (eqb n.accepts writes)
         (λ f. rw (eqb-true n.accepts writes f, in_order_is, write_is c n.kept.mode (take n.count d))
-        (bool_cases (eqb n.kept.active 0 || open_for_in (Known c) (transfer_of_kept n.kept)) (λ g. rw g) (λ g. rw g)))
+        (bool_cases (eqb n.kept.active 0 || open_for_in (Some c) (transfer_of_kept n.kept)) (λ g. rw g) (λ g. rw g)))
         (λ f. rw f (bool_cases (eqb n.accepts reads)
         (λ g. rw (g, open_is (transfer_of_kept n.kept) r d, not-not (eqb n.kept.active 0)))
         (λ g. rw g)))))
 
-  pub drawn_known : (c : Command) → eqb n.codes 0 ≡ true → command_of n.cmd1 n.cmd2 ≡ Known c → ruling_in_rule n ≡ true
+  pub drawn_known : (c : Command) → eqb n.codes 0 ≡ true → command_of n.cmd1 n.cmd2 ≡ Some c → ruling_in_rule n ≡ true
       → drawn (record_of n d) ≡ accepted_by c n (take n.count d)
   drawn_known c e k r = drawn_is e ∙ rw (k, r) (sym (accepted_is c (in_rule_lem n r).transfer))
 
@@ -187,60 +187,62 @@ brought_for (Read c) t buffer x y h = (refl, refl)
 
 -- a judgement that is not refused
 module _
-    (s : Settings)
-    (r : Registers)
-    (buffer : List ℕ)
-    (n : Ruling)
-    (d : List ℕ)
-    (f : forged (record_of n d) ≡ false)
-    (i : same_items (items_of (without_hold s r buffer)) (items_kept (record_of n d)) ≡ true) where
-  held_kept : held_in (transfer_of r) ≡ held_in (transfer_of_kept n.kept)
+    (c : Controller)
+    (j : JudgementRecord)
+    (f : forged j ≡ false)
+    (i : same_items (items_of c) (items_kept j) ≡ true) where
+  held_kept : held_in (transfer_of c.registers) ≡ held_in (transfer_of_kept j.ruling.kept)
   held_kept =
-      let t = transfer_of r in
-      let k = transfer_of_kept n.kept in
+      let m = c.settings.mode in
+      let t = transfer_of c.registers in
+      let k = transfer_of_kept j.ruling.kept in
       same_held t k
-      (and_right (eqb s.mode n.kept.mode) (same_numbers t k)
-      (and_left (eqb s.mode n.kept.mode && same_numbers t k) (same_list (take (held_in t) buffer) (take (held_in t) d))
-      (sym (same_items_lem s.mode n.kept.mode t k buffer d) ∙ i)))
+      (and_right (eqb m j.ruling.kept.mode) (same_numbers t k)
+      (and_left (eqb m j.ruling.kept.mode && same_numbers t k) (same_list (take (held_in t) c.buffer) (take (held_in t) j.joined))
+      (sym (same_items_lem m j.ruling.kept.mode t k c.buffer j.joined) ∙ i)))
 
   -- data that are held are drawn by a packet, and are in rule
-  held_in_rule : (c : Command) → meant (record_of n d) ≡ Hold c → InRule n
+  held_in_rule : (d : Command) → meant j ≡ Hold d → InRule j.ruling
   unfolding forged
-  held_in_rule c e =
-      let a = acceptable (command_for (record_of n d)) (record_of n d) in
-      in_rule_lem n
-      (and_left (ruling_in_rule n) a
-      (and_right (eqb n.codes 0) (ruling_in_rule n && a) (sym (drawable_is n d) ∙ not-false (drawable (record_of n d)) (rw e at f))))
+  held_in_rule d e =
+      let a = acceptable (command_for j) j in
+      in_rule_lem j.ruling
+      (and_left (ruling_in_rule j.ruling) a
+      (and_right (eqb j.ruling.codes 0) (ruling_in_rule j.ruling && a) (sym (drawable_is j.ruling j.joined) ∙ not-false (drawable j) (rw e at f))))
 
-  -- what the code leaves is what the call leaves
-  pub carries_is : {p : Performed} {buffer' out' out : List ℕ} → Carries p buffer' out' s r buffer n d (meant (record_of n d)) out
-      → performed_of p buffer' out' ≡ carries (without_hold s r buffer) (record_of n d) out
-  unfolding response_for
-  carries_is {p} {buffer'} {out'} {out} w =
-      let b = brought_for (meant (record_of n d)) (transfer_of r) buffer (drop (held_in (transfer_of r)) (take w.end d)) (brought_in (record_of n d)) brought in
-      rw (w.answer, w.settings, w.registers, w.held, w.output, b.0, b.1)
-    where
-      brought : (c : Command) → meant (record_of n d) ≡ Hold c → drop (held_in (transfer_of r)) (take w.end d) ≡ brought_in (record_of n d)
-      brought c e =
-          let k = held_in_rule c e in
-          rw (w.known (omega (arith, held_kept, k.least)) k.most, held_kept)
+  -- the bytes that the packet brought stand from the held ones up to here, where the judgement holds them
+  pub brought : (end : ℕ) → (held_in (transfer_of c.registers) ≤ j.ruling.count → j.ruling.count ≤ 1024 → end ≡ j.ruling.count)
+      → (d : Command) → meant j ≡ Hold d → drop (held_in (transfer_of c.registers)) (take end j.joined) ≡ brought_in j
+  brought end known d e =
+      let k = held_in_rule d e in
+      rw (known (omega (arith, held_kept, k.least)) k.most, held_kept)
 
-  pub carry_call_lem : (out : List ℕ) → 64 ≤ length out → in_rule (without_hold s r buffer) ≡ true
-      → carry_call (without_hold s r buffer) (record_of n d) out ≡ carries (without_hold s r buffer) (record_of n d) out
-  unfolding carry_call
-  carry_call_lem out l e = rw (le-ltb (length out) 64 l, e, f, i)
+  -- what is left, body being what the code takes for those bytes
+  pub carry_call_lem : (out body : List ℕ) → 64 ≤ length out → in_rule c ≡ true → ((d : Command) → meant j ≡ Hold d → body ≡ brought_in j)
+      → let b = body in
+      carry_call c j out
+      ≡ record {
+        answer = Writes (length (response_to j.ruling.cmd1 j.ruling.cmd2 c.settings (meant j)));
+        controller = carried_out c (receiver_in c) b (meant j);
+        output = written (response_to j.ruling.cmd1 j.ruling.cmd2 c.settings (meant j)) out;
+      }
+  unfolding carry_call response_for
+  carry_call_lem out body l e h =
+      let b = brought_for (meant j) (transfer_of c.registers) c.buffer body (brought_in j) h in
+      rw (le-ltb (length out) 64 l, e, f, i, b.0, b.1)
 
--- The call neither looks at the payload of a packet that is coming in, nor touches it.
-pub hold_passed : (c : Controller) (j : JudgementRecord) (out : List ℕ)
-    → let x = carry_call (without_hold c.settings c.registers c.buffer) j out in
-    carry_call c j out
+-- The call neither looks at the payload of a packet that is coming in, nor touches it: with any other in its place it
+-- answers and leaves the same, but for that payload.
+pub hold_passed : (c : Controller) (hold : List ℕ) (j : JudgementRecord) (out : List ℕ)
+    → let x = carry_call c j out in
+    carry_call (record { settings = c.settings; registers = c.registers; buffer = c.buffer; hold = hold }) j out
     ≡ record {
       answer = x.answer;
-      controller = controller_of x.controller.settings x.controller.registers x.controller.buffer c.hold;
+      controller = record { settings = x.controller.settings; registers = x.controller.registers; buffer = x.controller.buffer; hold = hold };
       output = x.output;
     }
 unfolding carry_call response_for
-hold_passed c j out =
+hold_passed c hold j out =
     bool_cases (ltb (length out) 64) (λ e. rw e)
     (λ e. rw e (bool_cases (in_rule c)
     (λ f. rw f (bool_cases (forged j) (λ g. rw g)

@@ -1,7 +1,7 @@
 -- Laws of data laid out in fields: what is cited of split_all and join_all, and of the code's forms of them.
 use Prim.Native.Nat.{ℕ, suc, ◌<◌, ◌≤◌, zero, ◌+◌, ◌*◌, ◌^◌}
 use mathlib.Core.Path.{◌≡◌, refl, ap, ap₂, sym, ◌∙◌}
-use mathlib.Core.List.{List, [], ◌∷◌, ◌++◌, append-nil, append_assoc}
+use mathlib.Core.List.{List, [], ◌∷◌, ◌++◌}
 use mathlib.Core.Bool.{true}
 use native.Mathlib.Nat.{add-zero}
 use native.Mathlib.Omega.{arith}
@@ -14,10 +14,9 @@ use Rattle.packet.specs.Packet.{sum}
 use Rattle.packet.proofs.Cases.{and_left, and_right, and_both}
 use Rattle.packet.proofs.NumberLaws.{bytes_take, bytes_drop, value_bytes, length_bytes, bytes_value, value_bound}
 use Rattle.command.specs.Data.{split_all, join_all, Fit, same_list}
-use Rattle.command.specs.Inner.{Holds, total, number_at, split_from, join_onto}
+use Rattle.command.specs.Inner.{total, number_at, split_from}
 use Rattle.command.specs.Table.{layout, size_of}
 use Rattle.command.specs.declared.table.Command.{Command}
-use Rattle.command.specs.declared.data.Data.{Data}
 
 -- as many numbers as fields
 pub split_length : (ws d : List ℕ) → length (split_all ws d) ≡ length ws
@@ -95,17 +94,6 @@ pub split_places : (ws : List ℕ) (at : ℕ) (d : List ℕ) → split_from at w
 unfolding split_all
 split_places [] at d = refl
 split_places (w ∷ ws) at d = ap₂ {C = List ℕ} (λ a b. a ∷ b) (number_at_lem w d at) (split_places ws (at + w) d ∙ ap (split_all ws) (sym (drop-drop w at d)))
-
--- the bytes of the numbers, appended one after the other
-pub join_onto_lem : (d ws vs : List ℕ) → join_onto d ws vs ≡ d ++ join_all ws vs
-unfolding join_all
-join_onto_lem d [] vs = sym (append-nil d)
-join_onto_lem d (w ∷ ws) [] = sym (append-nil d)
-join_onto_lem d (w ∷ ws) (v ∷ vs) = join_onto_lem (d ++ bytes_of w v) ws vs ∙ append_assoc d (bytes_of w v) (join_all ws vs)
-
--- data put together field by field
-pub holds_join : (r : Data) (ws vs : List ℕ) → Holds r (join_onto [] ws vs) → Holds r (join_all ws vs)
-holds_join r ws vs h = rw (join_onto_lem [] ws vs) at h
 
 -- The same numbers in the same order are the same list.
 

@@ -1,4 +1,5 @@
 -- Write packets: the encoder's packet is judged as its write, and an accepted whole write encodes to its own bytes.
+use Rattle.std.specs.Prelude.{Option, Some}
 use Prim.Native.Nat.{ℕ, ◌≤◌}
 use mathlib.Core.Path.{◌≡◌, refl, ap, sym, subst, ◌∙◌}
 use mathlib.Core.Bool.{Bool, true, false, cond, not, ◌&&◌, ◌||◌, and-false}
@@ -24,8 +25,6 @@ use Rattle.command.specs.Judgement.{judge_write, judge_data, judge_as, judge}
 use Rattle.command.specs.Player.{State, from, judged, next}
 use Rattle.command.specs.Encoder.{write_packet, encoded}
 use Rattle.command.specs.declared.table.Command.{Command}
-use Rattle.command.specs.declared.table.Found.{Found}
-use Rattle.command.specs.declared.table.Found.TheVariants.{Known}
 use Rattle.command.specs.declared.settings.Settings.{Settings}
 use Rattle.command.specs.declared.value.Value.{Value}
 use Rattle.command.specs.declared.judgement.Judgement.TheVariants.{Error, Write}
@@ -54,8 +53,8 @@ pub arrived_plain : (type : ℕ) (c : Command) (d : List ℕ) → length d ≤ 6
 arrived_plain type c d h = arrived_written type (cmd1_for c) (cmd2_for c) whole d h
 
 -- At a packet boundary with no transfer open it has no fault of the first group, and is judged by its command and data alone.
-module _ (type : ℕ) (c : Command) (d : List ℕ) (w : wrong_command (Known c) type ≡ false) (h : length d ≤ 1024) where
-  no_faults_lem : any_fault (faults (Known c) Closed (plain type c d)) ≡ false
+module _ (type : ℕ) (c : Command) (d : List ℕ) (w : wrong_command (Some c) type ≡ false) (h : length d ≤ 1024) where
+  no_faults_lem : any_fault (faults (Some c) Closed (plain type c d)) ≡ false
   unfolding any_fault faults faults_of too_long wrong_order
   no_faults_lem = rw (w, le-ltb 1024 (length d) h, and-false (not (eqb type host_write)))
 
@@ -117,7 +116,7 @@ whole_closed (Opened c d) o type h = go (not (eqb type host_write)) h
     go false h = let z : ◌≡◌ {A = ℕ} 0 1 = cc in absurd (omega arith)
 
 -- a type that is not wrong and is no read is a write
-type_write : (f : Found) (type : ℕ) → wrong_command f type ≡ false → eqb type host_read ≡ false → type ≡ host_write
+type_write : (f : Option Command) (type : ℕ) → wrong_command f type ≡ false → eqb type host_read ≡ false → type ≡ host_write
 unfolding wrong_command
 type_write f type h e = eqb-true type host_write (go (eqb type host_write) (eqb type host_read) (is_known f) (can_read f) h e)
   where
@@ -139,12 +138,12 @@ accepted_encodes p b i a v z h =
     subst (OfWrite Remade) h
     (of_judge Remade a.settings.mode a.transfer (arrived p)
     (λ c k e r n w.
-    let g = faultless (Known c) a.transfer (arrived p) e in
+    let g = faultless (Some c) a.transfer (arrived p) e in
     let code = known_code (cmd1_of p) (cmd2_of p) c k in
     let d : held a.transfer ++ payload p ≡ payload p =
     ap (λ (x : Transfer). held x ++ payload p)
-    (whole_closed a.transfer (open_for (Known c) a.transfer) (type_of p) (rw z at g.continuation)) in
-    packet_eq (sym (type_write (Known c) (type_of p) g.command r)) (sym code.0) (sym code.1) (sym z)
+    (whole_closed a.transfer (open_for (Some c) a.transfer) (type_of p) (rw z at g.continuation)) in
+    packet_eq (sym (type_write (Some c) (type_of p) g.command r)) (sym code.0) (sym code.1) (sym z)
     (rw d (join_split (layout c) (payload p) (payload_bytes p b) (rw d at n)))
     ∙ packet_remade p b i g.checksum))
   where

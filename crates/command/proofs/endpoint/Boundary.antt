@@ -3,7 +3,7 @@ use Prim.Native.Nat.{ℕ, suc, ◌+◌, ◌≤◌}
 use mathlib.Core.Path.{◌≡◌, refl, ap, ap₂, sym, subst, ◌∙◌}
 use mathlib.Core.Bool.{false}
 use mathlib.Core.List.{List, [], ◌∷◌, ◌++◌, map}
-use mathlib.Core.Option.{Option, some}
+use Rattle.std.specs.Prelude.{Option, None, Some}
 use native.Mathlib.Nat.{zero-add}
 use native.Mathlib.Omega.{arith}
 use lib.ListN.{length, take, drop, length-append}
@@ -29,11 +29,10 @@ use Rattle.command.specs.Controller.{transfer_of, held_in, state_of, receiver_in
 use Rattle.command.specs.Endpoint.{arrived_in, judged_in, response_in, carried_out, After, waiting, receive_call}
 use Rattle.command.specs.Sending.{Reply, serves, Ready, Sending, replies_to, sent_to, wrong_to, Boundary}
 use Rattle.command.specs.Demand2.{Follows}
-use Rattle.command.specs.declared.table.Found.{Found}
-use Rattle.command.specs.declared.table.Found.TheVariants.{Known, Unknown}
 use Rattle.command.specs.declared.judgement.Judgement.{Judgement}
 use Rattle.command.specs.declared.judgement.Judgement.TheVariants.{Error, Hold, Write, Read}
 use Rattle.command.specs.declared.controller.Controller.{Controller}
+use Rattle.command.specs.declared.table.Command.{Command}
 use Rattle.command.proofs.transfer.Laws.{fits_hold}
 use Rattle.command.proofs.carry.Laws.{Bounded, stored_part, carried_transfer}
 use Rattle.command.proofs.controller.Laws.{rule_parts}
@@ -49,9 +48,9 @@ judge_body : (mode : ℕ) (t : Transfer) (p : Arrived) (b : List ℕ) → (lengt
 unfolding judge
 judge_body mode t p b h = go (command_of p.cmd1 p.cmd2)
   where
-    go : (f : Found) → judge_as f mode t (with_body p b) ≡ judge_as f mode t p
-    go Unknown = unfold judge_as faults in refl
-    go (Known c) = unfold judge_as faults in bool_cases (any_fault (faults (Known c) t p)) (λ e. rw e) (λ e. rw (h (fits_hold (Known c) t p e)))
+    go : (f : Option Command) → judge_as f mode t (with_body p b) ≡ judge_as f mode t p
+    go None = unfold judge_as faults in refl
+    go (Some c) = unfold judge_as faults in bool_cases (any_fault (faults (Some c) t p)) (λ e. rw e) (λ e. rw (h (fits_hold (Some c) t p e)))
 
 -- The judgement of a packet, carried out with its payload, leaves the state that document 01 says, whatever receiver the head has then. A payload that is
 -- too long does not matter.
@@ -212,14 +211,14 @@ module _ (out : List ℕ) (l : 64 ≤ length out) where
       let d : Controller = (receive_call c (p ++ b) out).controller in
       let m : Reply = reply_to (state_of c) p in
       let n : length (p ++ b) ≡ length p + length b = length-append p b in
-      let e : serves out c (p ++ b) ≡ record { taken = length p; gives = some m; state = d } =
+      let e : serves out c (p ++ b) ≡ record { taken = length p; gives = Some m; state = d } =
       rw (t.answer, t.output, t.wrong, take_at (drawn c p) (drop (length (drawn c p)) out) (length (drawn c p)) refl) in
       let more : calls_on (serves out) (length (p ++ b)) d (drop (length p) (p ++ b)) ≡ served_one (serves out) d b =
       ap (calls_on (serves out) (length (p ++ b)) d) (drop_at p b (length p) refl)
       ∙ same_calls (serves out) Ready (endpoint_streams out l) (length (p ++ b)) (suc (length b)) d b t.ready (omega (arith, i.least)) (omega arith) in
       let f : served_one (serves out) c (p ++ b) ≡ record { given = m ∷ (served_one (serves out) d b).given; state = (served_one (serves out) d b).state } =
       ap (λ (x : Call Controller Reply). and_then x.gives x.state (calls_on (serves out) (length (p ++ b)) x.state (drop x.taken (p ++ b)))) e
-      ∙ ap (λ (x : Served Controller Reply). and_then (some m) d x) more in
+      ∙ ap (λ (x : Served Controller Reply). and_then (Some m) d x) more in
       let g = ih d (record { ready = t.ready; received = t.boundary.received }) in
       subst (Replies c (p ++ b)) (sym f)
       (record {

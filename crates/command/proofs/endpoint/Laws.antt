@@ -3,9 +3,8 @@ use Prim.Native.Nat.{ℕ, suc, ◌+◌, ◌-◌, ◌<◌, ◌≤◌, max}
 use mathlib.Core.Path.{◌≡◌, refl, ap, sym, subst, ◌∙◌}
 use mathlib.Core.Bool.{Bool, true, false, cond}
 use mathlib.Core.List.{List, [], ◌∷◌, ◌++◌}
-use mathlib.Core.Option.{none, some}
+use Rattle.std.specs.Prelude.{None, Some}
 use native.Mathlib.Omega.{arith}
-use lib.Dec.{ltb}
 use lib.ListN.{length, take, length-take, drop}
 use lib.Seq.{sets, length-sets, take_at}
 use borrow.Author.Tests.{lt-ltb, le-ltb, ltb-true}
@@ -13,16 +12,15 @@ use Rattle.packet.specs.Calls.{Served, served_one}
 use Rattle.packet.specs.Packet.{payload_length}
 use Rattle.packet.specs.Receiver.{Receiver, Received, with, missing, waiting as receiver_waiting, completed, packet_in_rule}
 use Rattle.packet.specs.Writer.{written}
-use Rattle.packet.proofs.Cases.{lt_cases, cond_cases}
+use Rattle.packet.proofs.Cases.{lt_cases}
 use Rattle.packet.proofs.Calls.{Streaming, shifted, keeps_calls, AnyOutput, at_once as sent-at-once}
 use Rattle.packet.proofs.ReceiverLaws.{with_nil, hold_length, missing_least, after, cut, behind, waits, completes}
 use Rattle.command.specs.Transfer.{held}
 use Rattle.command.specs.Faults.{Arrived}
 use Rattle.command.specs.Judgement.{judge}
 use Rattle.command.specs.Carry.{settings_after}
-use Rattle.command.specs.Controller.{transfer_of, held_in, state_of, receiver_in, in_rule}
+use Rattle.command.specs.Controller.{transfer_of, held_in, state_of, receiver_in}
 use Rattle.command.specs.Endpoint.{taken_by, arrived_in, judged_in, response_in, registers_of, carried_out, After, waiting, answered, receive_call}
-use Rattle.command.specs.Lent.{is_answered}
 use Rattle.command.specs.Sending.{Reply, shown, serves, Sending, replies_to, sent_to, Ready}
 use Rattle.command.specs.declared.judgement.Judgement.{Judgement}
 use Rattle.command.specs.declared.controller.Controller.{Controller}
@@ -36,17 +34,6 @@ use Rattle.command.proofs.player.Laws.{kept_judgement}
 -- a call that is not refused, by what the receiver took
 abbrev pub ends : Controller → List ℕ → Received → After
 ends c out t = cond t.complete (answered c t out) (waiting c t out)
-
--- a call that completes no packet leaves the settings
-pub unanswered_keeps : (c : Controller) (input out : List ℕ)
-    → let r = receive_call c input out in cond (is_answered r.answer) r.controller.settings c.settings ≡ r.controller.settings
-unfolding receive_call
-unanswered_keeps c input out =
-    cond_cases Keeps (ltb (length out) 64) (λ _. refl)
-    (λ _. cond_cases Keeps (in_rule c) (λ _. cond_cases Keeps (taken_by c input).complete (λ _. refl) (λ _. refl)) (λ _. refl))
-  where
-    Keeps : After → Type 0
-    Keeps r = cond (is_answered r.answer) r.controller.settings c.settings ≡ r.controller.settings
 
 -- the controller with this receiver
 abbrev pub received_by : Controller → Receiver → Controller
@@ -157,14 +144,14 @@ stays_in_rule c b out k l =
 
 -- The receive call over a stream.
 module _ (out : List ℕ) (l : 64 ≤ length out) where
-  none_waits : (c : Controller) (a : List ℕ) → Ready c → (serves out c a).gives ≡ none → length a < missing (receiver_in c) a
+  none_waits : (c : Controller) (a : List ℕ) → Ready c → (serves out c a).gives ≡ None → length a < missing (receiver_in c) a
   none_waits c a k g =
       lt_cases (length a) (missing (receiver_in c) a) (λ h. h)
       (λ h.
       let e = sym (ap (λ (r : After). (shown r).gives) (call_answers c a out k l h)) ∙ g in
       let z : ◌≡◌ {A = ℕ} 0 1 = cc in absurd (omega arith))
 
-  some_answers : (c : Controller) (a : List ℕ) (e : Reply) → Ready c → (serves out c a).gives ≡ some e → missing (receiver_in c) a ≤ length a
+  some_answers : (c : Controller) (a : List ℕ) (e : Reply) → Ready c → (serves out c a).gives ≡ Some e → missing (receiver_in c) a ≤ length a
   some_answers c a e k g =
       lt_cases (length a) (missing (receiver_in c) a)
       (λ h.
@@ -201,7 +188,7 @@ module _ (out : List ℕ) (l : 64 ≤ length out) where
         keeps = λ c b k. stays_in_rule c b out k l;
         empty = λ c k.
             ap shown (call_waits c [] out k l (omega (arith, missing_least (receiver_in c) [])))
-            ∙ ap (λ (r : Receiver). record { taken = 0; gives = none; state = received_by c r }) (with_nil 0 (receiver_in c));
+            ∙ ap (λ (r : Receiver). record { taken = 0; gives = None; state = received_by c r }) (with_nil 0 (receiver_in c));
         cut = λ c a b k g.
             let h = none_waits c a k g in
             cut_call c a b k h ∙ ap (λ (d : Controller). shifted (length a) (serves out d b)) (sym (ap (λ (r : After). r.controller) (call_waits c a out k l h)));

@@ -1,4 +1,5 @@
 -- The codes that are listed, and the tests of the first group as document 01's lines.
+use Rattle.std.specs.Prelude.{Option, None, Some}
 use Prim.Native.Nat.{ℕ, ◌+◌, ◌<◌, ◌≤◌}
 use mathlib.Core.Path.{◌≡◌, refl, ap, sym, subst, ◌∙◌}
 use mathlib.Core.Logic.{◌↔◌, ◌⊎◌, inl, inr, ⊎_elim}
@@ -19,8 +20,6 @@ use Rattle.command.specs.Faults.{Arrived, continues, wrong_command, too_long, wr
 use Rattle.command.specs.Demand1.{Names, Continues, Starts, FirstFault, WrongChecksum, UnknownType, UnknownCommand, ColourRead, LongPayload, LongTransfer, UnknownFlags, NoWriteInParts, NoneOpen, OpenForAnother, StillOpen, Ascending}
 use Rattle.command.specs.declared.table.Command.{Command}
 use Rattle.command.specs.declared.table.Command.TheVariants.{StaticColour}
-use Rattle.command.specs.declared.table.Found.{Found}
-use Rattle.command.specs.declared.table.Found.TheVariants.{Known, Unknown}
 use Rattle.command.specs.declared.faults.Codes.{Codes}
 use Rattle.command.proofs.table.Laws.{found, known_code, same_eq}
 
@@ -162,34 +161,34 @@ true_two f m n (inl e) = rw (eq-eqb f m e)
 true_two f m n (inr e) = or_that (eqb f m) (eqb f n) (eq-eqb f n e)
 
 -- a command is found by its bytes, and by no others
-pub named : (cmd1 cmd2 : ℕ) (c : Command) → Names cmd1 cmd2 c → command_of cmd1 cmd2 ≡ Known c
+pub named : (cmd1 cmd2 : ℕ) (c : Command) → Names cmd1 cmd2 c → command_of cmd1 cmd2 ≡ Some c
 named cmd1 cmd2 c n = rw (n.0, n.1) (found c)
 
-pub unnamed : (cmd1 cmd2 : ℕ) → ((c : Command) → Names cmd1 cmd2 c → ⊥) → command_of cmd1 cmd2 ≡ Unknown
+pub unnamed : (cmd1 cmd2 : ℕ) → ((c : Command) → Names cmd1 cmd2 c → ⊥) → command_of cmd1 cmd2 ≡ None
 unnamed cmd1 cmd2 h = go (command_of cmd1 cmd2) refl
   where
-    go : (f : Found) → command_of cmd1 cmd2 ≡ f → command_of cmd1 cmd2 ≡ Unknown
-    go Unknown e = e
-    go (Known c) e = absurd (h c (known_code cmd1 cmd2 c e))
+    go : (f : Option Command) → command_of cmd1 cmd2 ≡ f → command_of cmd1 cmd2 ≡ None
+    go None e = e
+    go (Some c) e = absurd (h c (known_code cmd1 cmd2 c e))
 
 -- none is open for any command, or one is open for another
-closed_for : (f : Found) → open_for f Closed ≡ false
-closed_for Unknown = refl
-closed_for (Known c) = refl
+closed_for : (f : Option Command) → open_for f Closed ≡ false
+closed_for None = refl
+closed_for (Some c) = refl
 
 open_for_another : (cmd1 cmd2 : ℕ) (c : Command) (d : List ℕ) → (Names cmd1 cmd2 c → ⊥) → open_for (command_of cmd1 cmd2) (Opened c d) ≡ false
 open_for_another cmd1 cmd2 c d h = go (command_of cmd1 cmd2) refl
   where
-    go : (f : Found) → command_of cmd1 cmd2 ≡ f → open_for f (Opened c d) ≡ false
-    go Unknown e = refl
-    go (Known b) e = bool_cases (same b c) (λ s. absurd (h (rw (same_eq b c s) at (known_code cmd1 cmd2 b e)))) (λ s. s)
+    go : (f : Option Command) → command_of cmd1 cmd2 ≡ f → open_for f (Opened c d) ≡ false
+    go None e = refl
+    go (Some b) e = bool_cases (same b c) (λ s. absurd (h (rw (same_eq b c s) at (known_code cmd1 cmd2 b e)))) (λ s. s)
 
 module _ (t : Transfer) (p : Arrived) where
   -- 02
-  command_fault : (f : Found) → command_of p.cmd1 p.cmd2 ≡ f → wrong_command f p.type ≡ true → FirstFault t p 0x02
+  command_fault : (f : Option Command) → command_of p.cmd1 p.cmd2 ≡ f → wrong_command f p.type ≡ true → FirstFault t p 0x02
   unfolding wrong_command
-  command_fault Unknown e h = UnknownCommand (λ c n. let z : ◌≡◌ {A = ℕ} 0 1 = cc (named p.cmd1 p.cmd2 c n) in omega arith)
-  command_fault (Known c) e h =
+  command_fault None e h = UnknownCommand (λ c n. let z : ◌≡◌ {A = ℕ} 0 1 = cc (named p.cmd1 p.cmd2 c n) in omega arith)
+  command_fault (Some c) e h =
       or_cases (not (eqb p.type host_write || eqb p.type host_read) || false) (eqb p.type host_read && not (readable c))
       (or_cases (not (eqb p.type host_write || eqb p.type host_read)) false
       (λ h.
@@ -234,7 +233,7 @@ module _ (t : Transfer) (p : Arrived) where
       no_transfer_lem Closed e f h = NoneOpen f e
       no_transfer_lem (Opened c d) e f h =
           OpenForAnother c d f e
-          (λ n. never (sym h ∙ ap (λ (g : Found). open_for g (Opened c d)) (named p.cmd1 p.cmd2 c n)
+          (λ n. never (sym h ∙ ap (λ (g : Option Command). open_for g (Opened c d)) (named p.cmd1 p.cmd2 c n)
           ∙ and_both _ _ (eq-eqb (cmd1_for c) (cmd1_for c) refl) (eq-eqb (cmd2_for c) (cmd2_for c) refl)))
 
       open_still : (u : Transfer) → t ≡ u → Starts p.flags → is_open u ≡ true → FirstFault t p 0x0B

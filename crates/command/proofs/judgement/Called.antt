@@ -1,4 +1,5 @@
 -- A judgement is an error with these codes exactly when the faults of the packet call for them.
+use Rattle.std.specs.Prelude.{Option, None, Some}
 use Prim.Native.Nat.{ℕ}
 use mathlib.Core.Path.{◌≡◌, refl, ap, sym, subst, ◌∙◌}
 use mathlib.Core.Logic.{◌↔◌}
@@ -21,8 +22,6 @@ use Rattle.command.specs.Response.{response_type, codes_in}
 use Rattle.command.specs.Demand1.{Names, Completes, FirstFault, UnknownType, joined_data, LaterFault, WrongSize, DataInRead, ValueNotAllowed, RunOutsideMode, Draws, FirstGroup, Alone}
 use Rattle.command.specs.declared.table.Command.{Command}
 use Rattle.command.specs.declared.table.Command.TheVariants.{SequenceRun}
-use Rattle.command.specs.declared.table.Found.{Found}
-use Rattle.command.specs.declared.table.Found.TheVariants.{Known, Unknown}
 use Rattle.command.specs.declared.faults.Codes.{Codes}
 use Rattle.command.specs.declared.judgement.Judgement.{Judgement}
 use Rattle.command.specs.declared.judgement.Judgement.TheVariants.{Error, Hold, Write, Read}
@@ -67,7 +66,7 @@ module _ (mode : ℕ) (t : Transfer) (p : Arrived) where
       judge_cases (IfError (Draws mode t p)) mode t p
       (λ h. FirstGroup (codes_of (first_group t p)) (codes_some t p h) (codes_ascending (first_group t p)) (codes_exactly t p))
       (λ c e h.
-      let none : (n : ℕ) → FirstFault t p n → ⊥ = no_fault t p (ap (λ (f : Found). any_fault (faults f t p)) e ∙ h) in
+      let none : (n : ℕ) → FirstFault t p n → ⊥ = no_fault t p (ap (λ (f : Option Command). any_fault (faults f t p)) e ∙ h) in
       let names : Names p.cmd1 p.cmd2 c = known_code p.cmd1 p.cmd2 c e in
       let write : eqb p.type host_read ≡ false → p.type ≡ host_write = λ r.
       bool_cases (eqb p.type host_write) (λ w. eqb-true p.type host_write w)
@@ -97,26 +96,26 @@ module _ (mode : ℕ) (t : Transfer) (p : Arrived) where
   unfolding judge
   judged_first h = go (command_of p.cmd1 p.cmd2) refl h
     where
-      go : (f : Found) → command_of p.cmd1 p.cmd2 ≡ f → any_fault (faults f t p) ≡ true → judge_as f mode t p ≡ Error (faults f t p)
-      go Unknown e k = unfold judge_as in refl
-      go (Known c) e k = unfold judge_as in rw k
+      go : (f : Option Command) → command_of p.cmd1 p.cmd2 ≡ f → any_fault (faults f t p) ≡ true → judge_as f mode t p ≡ Error (faults f t p)
+      go None e k = unfold judge_as in refl
+      go (Some c) e k = unfold judge_as in rw k
 
   -- none does
   module _ (none : (n : ℕ) → FirstFault t p n → ⊥) where
     judged_later : (c : Command) → Names p.cmd1 p.cmd2 c → judge mode t p ≡ judge_data c mode p.type p.flags (joined_data t p)
     unfolding judge judge_as
     judged_later c n =
-        let e : command_of p.cmd1 p.cmd2 ≡ Known c = named p.cmd1 p.cmd2 c n in
-        let h : any_fault (faults (Known c) t p) ≡ false = rw e at (faultless_test t p none) in
+        let e : command_of p.cmd1 p.cmd2 ≡ Some c = named p.cmd1 p.cmd2 c n in
+        let h : any_fault (faults (Some c) t p) ≡ false = rw e at (faultless_test t p none) in
         rw e (rw h)
 
     -- the command is in the table
     known : {P : Type 0} → ((c : Command) → Names p.cmd1 p.cmd2 c → P) → P
     known {P} g = go (command_of p.cmd1 p.cmd2) refl
       where
-        go : (f : Found) → command_of p.cmd1 p.cmd2 ≡ f → P
-        go Unknown e = never (sym (rw e at (faultless_test t p none)) ∙ unknown_fault t p)
-        go (Known c) e = g c (known_code p.cmd1 p.cmd2 c e)
+        go : (f : Option Command) → command_of p.cmd1 p.cmd2 ≡ f → P
+        go None e = never (sym (rw e at (faultless_test t p none)) ∙ unknown_fault t p)
+        go (Some c) e = g c (known_code p.cmd1 p.cmd2 c e)
 
     later_judged : Completes p.flags → (n : ℕ) → LaterFault mode t p n → IsError (judge mode t p) (n ∷ [])
     unfolding codes_of list_if judge_data judge_read judge_write size_of sum split_all value_of blocked

@@ -1,10 +1,12 @@
 -- The ways a packet can be judged, what is known of a write that is carried out, and how the steps of the code make up the judgement.
-use Prim.Native.Nat.{ℕ, ◌-◌}
+use Rattle.std.specs.Prelude.{Option, None, Some}
+use Prim.Native.Nat.{ℕ, ◌-◌, ◌<◌}
 use mathlib.Core.Path.{◌≡◌, refl, ap, sym}
 use mathlib.Core.Bool.{Bool, true, false, cond, not, ◌||◌, or-true}
-use mathlib.Core.List.{List, [], ◌∷◌, ◌++◌}
+use mathlib.Core.List.{List, ◌++◌}
 use native.Mathlib.Omega.{arith}
 use lib.Dec.{eqb}
+use lib.Seq.{get_or-take}
 use lib.ListN.{length, take, drop, get_or}
 use borrow.Author.Tests.{eqb-true}
 use Rattle.packet.specs.Number.{Bytes}
@@ -21,14 +23,11 @@ use Rattle.command.specs.Judgement.{judge_write, judge_read, completes, judge_da
 use Rattle.command.specs.Controller.{held_in, transfer_in, transfer_in_rule, packet_in}
 use Rattle.command.specs.Inner.{is_open_in, open_for_in, parsed, faults_of}
 use Rattle.command.specs.declared.table.Command.{Command}
-use Rattle.command.specs.declared.table.Found.{Found}
-use Rattle.command.specs.declared.table.Found.TheVariants.{Known, Unknown}
-use Rattle.command.specs.declared.value.Parsed.{Parsed}
-use Rattle.command.specs.declared.value.Parsed.TheVariants.{Values, WrongSize}
 use Rattle.command.specs.declared.transfer.TransferState.{TransferState}
 use Rattle.command.specs.declared.faults.Codes.{Codes}
 use Rattle.command.specs.declared.judgement.Judgement.{Judgement}
 use Rattle.command.specs.declared.judgement.Judgement.TheVariants.{Error, Hold, Write, Read}
+use Rattle.command.specs.declared.value.Value.{Value}
 use Rattle.command.proofs.rules.Laws.{Writable}
 use Rattle.command.proofs.data.Laws.{split_length, fit_split}
 use Rattle.command.proofs.value.Laws.{command_from, values_from}
@@ -67,23 +66,23 @@ later P mode type flags c d l =
     (λ f. l.hold f)
 
 -- a command that is not in the table is a fault
-pub unknown_fault : (t : Transfer) (p : Arrived) → any_fault (faults Unknown t p) ≡ true
+pub unknown_fault : (t : Transfer) (p : Arrived) → any_fault (faults None t p) ≡ true
 unfolding any_fault faults faults_of wrong_command
 unknown_fault t p = rw (or-true (not (eqb p.type host_write || eqb p.type host_read)))
 
 pub judge_cases : (P : Judgement → Type 0) (mode : ℕ) (t : Transfer) (p : Arrived)
     → let f = command_of p.cmd1 p.cmd2 in
     (any_fault (faults f t p) ≡ true → P (Error (faults f t p)))
-    → ((c : Command) → f ≡ Known c → any_fault (faults (Known c) t p) ≡ false → Later P mode p.type p.flags c (held t ++ p.body))
+    → ((c : Command) → f ≡ Some c → any_fault (faults (Some c) t p) ≡ false → Later P mode p.type p.flags c (held t ++ p.body))
     → P (judge mode t p)
 unfolding judge
 judge_cases P mode t p first rest = go (command_of p.cmd1 p.cmd2) refl first
   where
-    go : (f : Found) → command_of p.cmd1 p.cmd2 ≡ f → (any_fault (faults f t p) ≡ true → P (Error (faults f t p))) → P (judge_as f mode t p)
-    go Unknown e g = unfold judge_as in g (unknown_fault t p)
-    go (Known c) e g =
+    go : (f : Option Command) → command_of p.cmd1 p.cmd2 ≡ f → (any_fault (faults f t p) ≡ true → P (Error (faults f t p))) → P (judge_as f mode t p)
+    go None e g = unfold judge_as in g (unknown_fault t p)
+    go (Some c) e g =
         unfold judge_as in
-        cond_cases P (any_fault (faults (Known c) t p)) g (λ n. later P mode p.type p.flags c (held t ++ p.body) (rest c e n))
+        cond_cases P (any_fault (faults (Some c) t p)) g (λ n. later P mode p.type p.flags c (held t ++ p.body) (rest c e n))
 
 -- what holds of a write that a judgement carries out, and of every other judgement
 abbrev pub OfWrite : (Command → List ℕ → Type 0) → Judgement → Type 0
@@ -96,7 +95,7 @@ OfWrite P (Read c) = Unit {0}
 pub of_judge : (P : Command → List ℕ → Type 0) (mode : ℕ) (t : Transfer) (p : Arrived)
     → let f = command_of p.cmd1 p.cmd2 in
     let d = held t ++ p.body in
-    ((c : Command) → f ≡ Known c → any_fault (faults (Known c) t p) ≡ false → eqb p.type host_read ≡ false → length d ≡ size_of c
+    ((c : Command) → f ≡ Some c → any_fault (faults (Some c) t p) ≡ false → eqb p.type host_read ≡ false → length d ≡ size_of c
     → Writable mode c (split_all (layout c) d) → P c (split_all (layout c) d))
     → OfWrite P (judge mode t p)
 of_judge P mode t p h =
@@ -130,9 +129,9 @@ fitting mode t p b =
 -- How the code's steps of judging make up the judgement.
 
 -- a write, by what reading its data finds
-abbrev pub judge_parsed : ℕ → Parsed → Judgement
-judge_parsed mode WrongSize = Error size_fault
-judge_parsed mode (Values v) =
+abbrev pub judge_parsed : ℕ → Option Value → Judgement
+judge_parsed mode None = Error size_fault
+judge_parsed mode (Some v) =
     cond (allowed (command_in v) (values_in v)) (cond (blocked (command_in v) (values_in v) mode) (Error mode_fault) (Write v))
     (Error (value_fault (wrong_byte (command_in v) (values_in v))))
 
@@ -144,7 +143,7 @@ write_parsed c mode d =
     (λ e. rw e)
 
 -- a packet, by the controller's numbers
-module _ (mode : ℕ) (t : TransferState) (header : List ℕ) (right : Bool) (buffer body : List ℕ) (r : transfer_in_rule t ≡ true) (n : length buffer ≡ 1024) (f : Found) where
+module _ (mode : ℕ) (t : TransferState) (header : List ℕ) (right : Bool) (buffer body : List ℕ) (r : transfer_in_rule t ≡ true) (n : length buffer ≡ 1024) (f : Option Command) where
   abbrev pub codes_by : Codes
   codes_by = faults_of f (is_open_in t) (open_for_in f t) (held_in t) (type_of header) (flags_of header) (payload_length header) right
 
@@ -152,20 +151,22 @@ module _ (mode : ℕ) (t : TransferState) (header : List ℕ) (right : Bool) (bu
   codes_are = faults_are t r buffer n f (packet_in header right body)
 
   module _ (e : f ≡ command_of (cmd1_of header) (cmd2_of header)) where
-    pub judge_unknown : f ≡ Unknown → Error codes_by ≡ judge mode (transfer_in t buffer) (packet_in header right body)
+    pub judge_unknown : f ≡ None → Error codes_by ≡ judge mode (transfer_in t buffer) (packet_in header right body)
     unfolding judge judge_as
     judge_unknown u = rw (← e, u) (ap Error (sym (rw u at codes_are)))
 
-    pub judge_known : (c : Command) → f ≡ Known c
+    pub judge_known : (c : Command) → f ≡ Some c
         → cond (any_fault codes_by) (Error codes_by) (judge_data c mode (type_of header) (flags_of header) (take (held_in t) buffer ++ body))
         ≡ judge mode (transfer_in t buffer) (packet_in header right body)
     unfolding judge judge_as
     judge_known c k = rw (← e, k, rw k at codes_are, held_is t r buffer)
 
--- A packet of bytes, its fields at their places, is what is judged.
-pub packet_parts : (p : List ℕ) (right : Bool) → size p ≡ length p → right ≡ right_sum p → {body : List ℕ} → body ≡ take (length p - 1 - 6) (drop 6 p)
-    → packet_in (get_or p 0 0 ∷ get_or p 1 0 ∷ get_or p 2 0 ∷ get_or p 3 0 ∷ get_or p 4 0 ∷ get_or p 5 0 ∷ []) right body ≡ arrived p
+-- A packet of bytes, its header cut off, is what is judged.
+pub packet_parts : (p : List ℕ) (right : Bool) → size p ≡ length p → right ≡ right_sum p
+    → {header body : List ℕ} → header ≡ take 6 p → body ≡ take (length p - 1 - 6) (drop 6 p)
+    → packet_in header right body ≡ arrived p
 unfolding size payload
-packet_parts p right e r b =
+packet_parts p right e r h b =
     let n : length p - 1 - 6 ≡ payload_length p = omega arith in
-    rw (r, b, n)
+    let at : (k : ℕ) → k < 6 → get_or (take 6 p) k 0 ≡ get_or p k 0 = λ k l. get_or-take 6 p k 0 l in
+    rw (h, r, b, n, at 0 (omega arith), at 1 (omega arith), at 2 (omega arith), at 3 (omega arith), at 4 (omega arith), at 5 (omega arith))

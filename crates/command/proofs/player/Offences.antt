@@ -4,7 +4,7 @@ use mathlib.Core.Path.{◌≡◌, refl, ap, ap₂, sym, subst, ◌∙◌}
 use mathlib.Core.Logic.{◌↔◌, ◌⊎◌, inl, inr, ⊎_elim}
 use mathlib.Core.Bool.{Bool, true, false, cond, not, ◌&&◌}
 use mathlib.Core.List.{List, [], ◌∷◌, ◌++◌}
-use mathlib.Core.Option.{Option, none, some}
+use Rattle.std.specs.Prelude.{Option, None, Some}
 use native.Mathlib.Nat.{zero-add}
 use native.Mathlib.Omega.{arith}
 use lib.ListN.{length, take, drop}
@@ -22,18 +22,18 @@ use Rattle.command.specs.declared.settings.Settings.{Settings}
 
 -- o is that number, or none where it holds of none
 abbrev Least : (ℕ → Type 0) → Option ℕ → Type 0
-Least P none = (m : ℕ) → P m → ⊥
-Least P (some n) = P n × ((m : ℕ) → P m → n ≤ m)
+Least P None = (m : ℕ) → P m → ⊥
+Least P (Some n) = P n × ((m : ℕ) → P m → n ≤ m)
 
 least_map : {P Q : ℕ → Type 0} → ((n : ℕ) → P n → Q n) → ((n : ℕ) → Q n → P n) → (o : Option ℕ) → Least P o → Least Q o
-least_map f g none l = λ m h. l m (g m h)
-least_map f g (some n) l = (f n l.0, λ m h. l.1 m (g m h))
+least_map f g None l = λ m h. l m (g m h)
+least_map f g (Some n) l = (f n l.0, λ m h. l.1 m (g m h))
 
 least_either : (P Q : ℕ → Type 0) (o p : Option ℕ) → Least P o → Least Q p → Least (λ n. P n ⊎ Q n) (earlier o p)
-least_either P Q none none f g = λ m h. ⊎_elim (f m) (g m) h
-least_either P Q none (some n) f g = (inr g.0, λ m h. ⊎_elim (λ x. absurd (f m x)) (g.1 m) h)
-least_either P Q (some m) none f g = (inl f.0, λ k h. ⊎_elim (f.1 k) (λ x. absurd (g k x)) h)
-least_either P Q (some m) (some n) f g = (which, λ k h. ⊎_elim (λ x. omega (arith, f.1 k x)) (λ x. omega (arith, g.1 k x)) h)
+least_either P Q None None f g = λ m h. ⊎_elim (f m) (g m) h
+least_either P Q None (Some n) f g = (inr g.0, λ m h. ⊎_elim (λ x. absurd (f m x)) (g.1 m) h)
+least_either P Q (Some m) None f g = (inl f.0, λ k h. ⊎_elim (f.1 k) (λ x. absurd (g k x)) h)
+least_either P Q (Some m) (Some n) f g = (which, λ k h. ⊎_elim (λ x. omega (arith, f.1 k x)) (λ x. omega (arith, g.1 k x)) h)
   where
     which : P (min m n) ⊎ Q (min m n)
     which =
@@ -101,7 +101,7 @@ refused_least at a [] = λ m r. nothing_there r.before r.packet r.behind r.cut
 refused_least at a (p ∷ ps) = go (acknowledged (judged a p)) refl (refused_least (at + length p) (next a p) ps)
   where
     go : (t : Bool) → acknowledged (judged a p) ≡ t → Least (Refused (at + length p) (next a p) ps) (not_acknowledged (at + length p) (next a p) ps)
-        → Least (Refused at a (p ∷ ps)) (cond t (not_acknowledged (at + length p) (next a p) ps) (some at))
+        → Least (Refused at a (p ∷ ps)) (cond t (not_acknowledged (at + length p) (next a p) ps) (Some at))
     go true t l = least_map (refused_more at a p ps) (refused_less at a p ps t) (not_acknowledged (at + length p) (next a p) ps) l
     go false t l = (
       record { before = []; packet = p; behind = ps; cut = refl; bad = unfold after in t; place = unfold bytes_in in omega arith },
@@ -201,7 +201,7 @@ opens_least : (opener at : ℕ) (a : State) (ps : List (List ℕ)) → Least (Le
 unfolding left_open
 opens_least opener at a [] = go (is_open a.transfer) refl
   where
-    go : (t : Bool) → is_open a.transfer ≡ t → Least (LeavesOpen opener at a []) (cond t (some opener) none)
+    go : (t : Bool) → is_open a.transfer ≡ t → Least (LeavesOpen opener at a []) (cond t (Some opener) None)
     go true t = (inl (still, refl), λ m. ⊎_elim (λ s. omega (arith, s.1)) (λ o. nothing_there o.before o.packet o.behind o.cut))
       where
         still : StaysOpen a []
@@ -222,7 +222,7 @@ module _ (s : Settings) (b : List ℕ) where
   unfolding unfinished
   half_least = go (half_sent b) refl
     where
-      go : (r : List ℕ) → half_sent b ≡ r → Least Half (cond (is_nil r) none (some (bytes_in (packets b))))
+      go : (r : List ℕ) → half_sent b ≡ r → Least Half (cond (is_nil r) None (Some (bytes_in (packets b))))
       go [] e = λ m h. h.0 e
       go (x ∷ r) e = ((λ z. let w : ◌≡◌ {A = ℕ} 0 1 = cc in omega arith, refl), λ m h. omega (arith, h.1))
 
@@ -254,7 +254,7 @@ module _ (s : Settings) (b : List ℕ) where
   offends_least : Least (Offends s b) (offence s b)
   offends_least = least_map of_kind kind_of (offence s b) kinds_least
 
-  pub none_offends : offence s b ≡ none → (m : ℕ) → Offends s b m → ⊥
+  pub none_offends : offence s b ≡ None → (m : ℕ) → Offends s b m → ⊥
   none_offends e m h = subst (Least (Offends s b)) e offends_least m h
 
   -- what offends stands at its place
@@ -265,25 +265,25 @@ module _ (s : Settings) (b : List ℕ) where
   stands_there n (LeftOpen before p behind c z w) = (packet_there b before p behind c, packet_within b before p behind c)
 
   -- the place that is named is the earliest
-  pub earliest_named : (n : ℕ) → (offence s b ≡ some n) ↔ Earliest s b n
+  pub earliest_named : (n : ℕ) → (offence s b ≡ Some n) ↔ Earliest s b n
   earliest_named n = (
     λ e. let l = subst (Least (Offends s b)) e offends_least in record { offends = l.0; first = l.1 },
     λ h. named (offence s b) offends_least h,
   )
     where
-      named : (o : Option ℕ) → Least (Offends s b) o → Earliest s b n → o ≡ some n
-      named none l h = absurd (l n h.offends)
-      named (some m) l h = let e : m ≡ n = omega (arith, l.1 n h.offends, h.first m l.0) in ap some e
+      named : (o : Option ℕ) → Least (Offends s b) o → Earliest s b n → o ≡ Some n
+      named None l h = absurd (l n h.offends)
+      named (Some m) l h = let e : m ≡ n = omega (arith, l.1 n h.offends, h.first m l.0) in ap Some e
 
--- None is named exactly where there is no offence.
+-- none is named exactly where there is no offence.
 abbrev absent : Option ℕ → Bool
-absent none = true
-absent (some n) = false
+absent None = true
+absent (Some n) = false
 
 absent_both : (o p : Option ℕ) → absent (earlier o p) ≡ (absent o && absent p)
-absent_both none p = refl
-absent_both (some m) none = refl
-absent_both (some m) (some n) = refl
+absent_both None p = refl
+absent_both (Some m) None = refl
+absent_both (Some m) (Some n) = refl
 
 absent_refused : (at : ℕ) (a : State) (ps : List (List ℕ)) → absent (not_acknowledged at a ps) ≡ all_acknowledged (judgements a ps)
 unfolding not_acknowledged judgements all_acknowledged
@@ -291,7 +291,7 @@ absent_refused at a [] = refl
 absent_refused at a (p ∷ ps) = go (acknowledged (judged a p)) (absent_refused (at + length p) (next a p) ps)
   where
     go : (t : Bool) → absent (not_acknowledged (at + length p) (next a p) ps) ≡ all_acknowledged (judgements (next a p) ps)
-        → absent (cond t (not_acknowledged (at + length p) (next a p) ps) (some at)) ≡ (t && all_acknowledged (judgements (next a p) ps))
+        → absent (cond t (not_acknowledged (at + length p) (next a p) ps) (Some at)) ≡ (t && all_acknowledged (judgements (next a p) ps))
     go true e = e
     go false e = refl
 
@@ -299,7 +299,7 @@ absent_open : (opener at : ℕ) (a : State) (ps : List (List ℕ)) → absent (l
 unfolding left_open after
 absent_open opener at a [] = go (is_open a.transfer)
   where
-    go : (t : Bool) → absent (cond t (some opener) none) ≡ not t
+    go : (t : Bool) → absent (cond t (Some opener) None) ≡ not t
     go true = refl
     go false = refl
 absent_open opener at a (p ∷ ps) = absent_open (cond (is_open a.transfer) opener at) (at + length p) (next a p) ps
@@ -308,13 +308,13 @@ absent_half : (b : List ℕ) → absent (unfinished b) ≡ is_nil (half_sent b)
 unfolding unfinished
 absent_half b = go (is_nil (half_sent b))
   where
-    go : (t : Bool) → absent (cond t none (some (bytes_in (packets b)))) ≡ t
+    go : (t : Bool) → absent (cond t None (Some (bytes_in (packets b)))) ≡ t
     go true = refl
     go false = refl
 
-absent_none : (o : Option ℕ) → (o ≡ none) ↔ (absent o ≡ true)
-absent_none none = (λ _. refl, λ _. refl)
-absent_none (some n) = (λ e. let z : ◌≡◌ {A = ℕ} 0 1 = cc in absurd (omega arith), λ e. never e)
+absent_none : (o : Option ℕ) → (o ≡ None) ↔ (absent o ≡ true)
+absent_none None = (λ _. refl, λ _. refl)
+absent_none (Some n) = (λ e. let z : ◌≡◌ {A = ℕ} 0 1 = cc in absurd (omega arith), λ e. never e)
 
 pub nil_only : (l : List ℕ) → is_nil l ≡ true → l ≡ []
 nil_only [] h = refl
@@ -328,7 +328,7 @@ module _ (s : Settings) (b : List ℕ) where
       ∙ ap₂ ◌&&◌ (absent_refused 0 (from s) (packets b))
       (absent_both (unfinished b) (left_open 0 0 (from s) (packets b)) ∙ ap₂ ◌&&◌ (absent_half b) (absent_open 0 0 (from s) (packets b)))
 
-  pub none_named : (offence s b ≡ none) ↔ ((all_acknowledged (judgements_on s b) ≡ true) × ((play s b).transfer ≡ Closed) × (half_sent b ≡ []))
+  pub none_named : (offence s b ≡ None) ↔ ((all_acknowledged (judgements_on s b) ≡ true) × ((play s b).transfer ≡ Closed) × (half_sent b ≡ []))
   none_named = (
     λ e.
         let all = sym absent_is ∙ (absent_none (offence s b)).0 e in

@@ -3,7 +3,7 @@ use Prim.Native.Nat.{ℕ, ◌+◌, ◌-◌, ◌<◌, ◌≤◌}
 use mathlib.Core.Path.{◌≡◌, refl, ap, sym, subst, ◌∙◌}
 use mathlib.Core.Bool.{Bool, true, false, cond}
 use mathlib.Core.List.{List, [], ◌∷◌, ◌++◌}
-use mathlib.Core.Option.{Option, none, some}
+use Rattle.std.specs.Prelude.{Option, None, Some}
 use native.Mathlib.Nat.{zero-add}
 use native.Mathlib.Omega.{arith}
 use lib.Dec.{ltb}
@@ -12,7 +12,7 @@ use lib.ListN.{length, take, drop, length-drop, take-append-drop, drop_of_length
 use lib.Seq.{drop-drop, length-take-le}
 use Rattle.packet.specs.Packet.{payload_length, payload, right_sum}
 use Rattle.packet.specs.Stream.{size, has_packet, next_in, packets, bytes_in, rest}
-use Rattle.packet.specs.declared.stream.Next.TheVariants.{Packet}
+use Rattle.packet.specs.declared.stream.WholePacket.{WholePacket}
 use Rattle.packet.proofs.Cases.{lt_cases}
 use Rattle.packet.proofs.StreamLaws.{IsPacket, payload_length_lem, first_packet, seven, size_within, packets_cons, rest_cons, packets_none, rest_none, next_some, right_front}
 use Rattle.command.specs.Faults.{arrived}
@@ -21,7 +21,8 @@ use Rattle.command.specs.Transfer.{Transfer, is_open}
 use Rattle.command.specs.Judgement.{judge}
 use Rattle.command.specs.Carry.{settings_after, transfer_after}
 use Rattle.command.specs.Controller.{held_in, transfer_in, transfer_in_rule, transfer_state_after, buffer_after}
-use Rattle.command.specs.Inner.{state_in, or_else}
+use Rattle.std.specs.Option.{option_or}
+use Rattle.command.specs.Inner.{state_in}
 use Rattle.command.specs.Player.{State, from, judged, next, after, play, is_nil, not_acknowledged, left_open, unfinished, earlier, offence}
 use Rattle.command.specs.declared.settings.Settings.{Settings}
 use Rattle.command.specs.declared.transfer.TransferState.{TransferState}
@@ -64,13 +65,13 @@ module _
 -- The bytes up to `at` were played from s, and left the state a. `first` is where the first packet began that was not acknowledged, if one was not, and `opener` where the one did that opened the transfer of a, if one is open.
 pub record Going (s : Settings) (b : List ℕ) (a : State) (first : Option ℕ) (opener at : ℕ) : Type 0 where
   pub state : play s b ≡ after a (packets (drop at b))
-  pub refusals : not_acknowledged 0 (from s) (packets b) ≡ or_else first (not_acknowledged at a (packets (drop at b)))
+  pub refusals : not_acknowledged 0 (from s) (packets b) ≡ option_or first (not_acknowledged at a (packets (drop at b)))
   pub openers : left_open 0 0 (from s) (packets b) ≡ left_open opener at a (packets (drop at b))
   pub left : rest b ≡ rest (drop at b)
   pub whole : bytes_in (packets b) ≡ at + bytes_in (packets (drop at b))
 
 -- the start: nothing is played, with no transfer open
-pub going_start : (s : Settings) (b : List ℕ) → Going s b (from s) none 0 0
+pub going_start : (s : Settings) (b : List ℕ) → Going s b (from s) None 0 0
 unfolding play
 going_start s b =
     record {
@@ -87,10 +88,10 @@ some_left [] h = absurd (omega arith)
 some_left (x ∷ l) h = refl
 
 -- what is known of them after one packet more
-or_more : (first : Option ℕ) (at : ℕ) (good : Bool) (later : Option ℕ) → or_else first (cond good later (some at)) ≡ or_else (or_else first (cond good none (some at))) later
-or_more (some n) at good later = refl
-or_more none at true later = refl
-or_more none at false later = refl
+or_more : (first : Option ℕ) (at : ℕ) (good : Bool) (later : Option ℕ) → option_or first (cond good later (Some at)) ≡ option_or (option_or first (cond good None (Some at))) later
+or_more (Some n) at good later = refl
+or_more None at true later = refl
+or_more None at false later = refl
 
 -- What the packet at a place is, and where the play stands after it.
 pub record Turned (s : Settings) (b : List ℕ) (a : State) (first : Option ℕ) (opener at n : ℕ) (right : Bool) : Type 0 where
@@ -98,19 +99,19 @@ pub record Turned (s : Settings) (b : List ℕ) (a : State) (first : Option ℕ)
   pub within : at + n ≤ length b
   pub whole : size (take n (drop at b)) ≡ length (take n (drop at b))
   pub sum : right ≡ right_sum (take n (drop at b))
-  pub going : Going s b (next a (take n (drop at b))) (or_else first (cond (acknowledged (judged a (take n (drop at b)))) none (some at)))
+  pub going : Going s b (next a (take n (drop at b))) (option_or first (cond (acknowledged (judged a (take n (drop at b)))) None (Some at)))
       (cond (is_open a.transfer) opener at) (at + n)
 
 module _ {s : Settings} {b : List ℕ} {a : State} {first : Option ℕ} {opener at : ℕ} (g : Going s b a first opener at) where
   one_packet_lem : (p q : List ℕ) → IsPacket p → p ++ q ≡ drop at b → drop (at + length p) b ≡ q
-      → Going s b (next a p) (or_else first (cond (acknowledged (judged a p)) none (some at))) (cond (is_open a.transfer) opener at) (at + length p)
+      → Going s b (next a p) (option_or first (cond (acknowledged (judged a p)) None (Some at))) (cond (is_open a.transfer) opener at) (at + length p)
   unfolding after not_acknowledged left_open bytes_in
   one_packet_lem p q i j d =
       record {
         state = g.state ∙ rw (← j, packets_cons p q i, d);
         refusals =
             g.refusals
-            ∙ ap (λ (x : List (List ℕ)). or_else first (not_acknowledged at a x)) (ap packets (sym j) ∙ packets_cons p q i)
+            ∙ ap (λ (x : List (List ℕ)). option_or first (not_acknowledged at a x)) (ap packets (sym j) ∙ packets_cons p q i)
             ∙ or_more first at (acknowledged (judged a p)) (not_acknowledged (at + length p) (next a p) (packets q))
             ∙ rw d;
         openers = g.openers ∙ rw (← j, packets_cons p q i, d);
@@ -119,12 +120,12 @@ module _ {s : Settings} {b : List ℕ} {a : State} {first : Option ℕ} {opener 
       }
 
   -- a packet stands there
-  pub going_packet : (n : ℕ) (right : Bool) → next_in (drop at b) ≡ Packet n right → at ≤ length b → Turned s b a first opener at n right
-  going_packet n right e l =
-      let f = next_some (drop at b) n right e in
-      subst (λ (m : ℕ). Turned s b a first opener at m right) f.1 (go f.0 f.2)
+  pub going_packet : (found : WholePacket) → next_in (drop at b) ≡ Some found → at ≤ length b → Turned s b a first opener at found.size found.right
+  going_packet found e l =
+      let f = next_some (drop at b) found e in
+      subst (λ (m : ℕ). Turned s b a first opener at m found.right) f.1 (go f.0 f.2)
     where
-      go : has_packet (drop at b) ≡ true → right_sum (drop at b) ≡ right → Turned s b a first opener at (size (drop at b)) right
+      go : has_packet (drop at b) ≡ true → right_sum (drop at b) ≡ found.right → Turned s b a first opener at (size (drop at b)) found.right
       go h r =
           let d : List ℕ = drop at b in
           let p : List ℕ = take (size (drop at b)) (drop at b) in
@@ -146,7 +147,7 @@ module _ {s : Settings} {b : List ℕ} {a : State} {first : Option ℕ} {opener 
     no_more = packets_none (drop at b) h
 
     -- bytes are left exactly where it is not the end
-    unfinished_at : unfinished b ≡ cond (ltb at (length b)) (some at) none
+    unfinished_at : unfinished b ≡ cond (ltb at (length b)) (Some at) None
     unfolding unfinished bytes_in
     unfinished_at =
         let n : bytes_in (packets b) ≡ at = rw no_more at g.whole ∙ omega arith in
@@ -154,7 +155,7 @@ module _ {s : Settings} {b : List ℕ} {a : State} {first : Option ℕ} {opener 
         (λ k. rw (g.left ∙ rest_none (drop at b) h, some_left (drop at b) (simp length-drop (omega arith)), n, lt-ltb at (length b) k))
         (λ k. rw (g.left ∙ rest_none (drop at b) h ∙ drop_of_length-le b {i = at} k, le-ltb at (length b) k))
 
-    open_at : left_open 0 0 (from s) (packets b) ≡ cond (is_open a.transfer) (some opener) none
+    open_at : left_open 0 0 (from s) (packets b) ≡ cond (is_open a.transfer) (Some opener) None
     unfolding left_open
     open_at = g.openers ∙ rw no_more
 
@@ -162,11 +163,11 @@ module _ {s : Settings} {b : List ℕ} {a : State} {first : Option ℕ} {opener 
     unfolding not_acknowledged
     first_at = g.refusals ∙ rw no_more (or_none first)
       where
-        or_none : (o : Option ℕ) → or_else o none ≡ o
-        or_none none = refl
-        or_none (some n) = refl
+        or_none : (o : Option ℕ) → option_or o None ≡ o
+        or_none None = refl
+        or_none (Some n) = refl
 
     pub going_end : (a.settings ≡ (play s b).settings)
-        × (earlier first (earlier (cond (ltb at (length b)) (some at) none) (cond (is_open a.transfer) (some opener) none)) ≡ offence s b)
+        × (earlier first (earlier (cond (ltb at (length b)) (Some at) None) (cond (is_open a.transfer) (Some opener) None)) ≡ offence s b)
     unfolding offence after
     going_end = (sym (ap (λ (x : State). x.settings) (g.state ∙ ap (after a) no_more)), rw (first_at, unfinished_at, open_at))

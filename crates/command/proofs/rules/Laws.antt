@@ -1,7 +1,8 @@
 -- Fields that are allowed and the byte that is wrong; settings that keep the rules, and what a write leaves of them.
+use Rattle.std.specs.Prelude.{is_none, is_some, Option, Some}
 use Prim.Native.Nat.{ℕ, ◌≤◌}
 use mathlib.Core.Path.{◌≡◌, refl, ap, sym, subst, ◌∙◌}
-use mathlib.Core.Bool.{Bool, true, false, cond, not, ◌&&◌, and-false}
+use mathlib.Core.Bool.{Bool, true, false, cond, not, not-not, ◌&&◌, and-false}
 use mathlib.Core.List.{List, [], ◌∷◌}
 use native.Mathlib.Omega.{arith}
 use lib.Dec.{eqb, leb}
@@ -13,28 +14,24 @@ use Rattle.command.specs.Table.{table, cmd1_for, cmd2_for, find, command_of, sam
 use Rattle.command.specs.Rules.{Field, all_valid, first_wrong, allowed, blocked, all_allowed, settings_in_rule}
 use Rattle.command.specs.Settings.{values_of, factory, values_after, store}
 use Rattle.command.specs.Value.{widths}
-use Rattle.command.specs.Inner.{is_nothing}
-use Rattle.command.specs.declared.rules.WrongByte.{WrongByte}
-use Rattle.command.specs.declared.rules.WrongByte.TheVariants.{At}
 use Rattle.command.specs.declared.settings.Settings.{Settings}
 use Rattle.command.specs.declared.table.Command.{Command}
 use Rattle.command.specs.declared.table.Command.TheVariants.{DisplayMode, TestPattern, LedCurrent, StaticColour, DisplaySetting, VideoInput, VideoMode, PatternSequence, SequenceRun}
-use Rattle.command.specs.declared.table.Found.TheVariants.{Known}
 use Rattle.command.proofs.table.Laws.{each, found, find_later, same_eq, fit_length, values_settings}
 use Rattle.command.proofs.data.Laws.{fit_last}
 
 -- no byte is wrong exactly where each field is allowed
-wrong_step : (b : Bool) (n : ℕ) (w : WrongByte) (t : Bool) → is_nothing w ≡ t → is_nothing (cond b w (At n)) ≡ (b && t)
+wrong_step : (b : Bool) (n : ℕ) (w : Option ℕ) (t : Bool) → is_none w ≡ t → is_none (cond b w (Some n)) ≡ (b && t)
 wrong_step true n w t e = e
 wrong_step false n w t e = refl
 
-pub nothing_wrong : (fs : List Field) → is_nothing (first_wrong fs) ≡ all_valid fs
+pub nothing_wrong : (fs : List Field) → is_none (first_wrong fs) ≡ all_valid fs
 nothing_wrong [] = refl
 nothing_wrong (f ∷ fs) = wrong_step f.valid f.byte (first_wrong fs) (all_valid fs) (nothing_wrong fs)
 
 -- what the code's test says of a check
-pub tested : (fs : List Field) {w : WrongByte} {t : Bool} → w ≡ first_wrong fs → t ≡ is_nothing w → t ≡ all_valid fs
-tested fs e f = f ∙ ap is_nothing e ∙ nothing_wrong fs
+pub tested : (fs : List Field) {w : Option ℕ} {t : Bool} → w ≡ first_wrong fs → is_some w ≡ not t → t ≡ all_valid fs
+tested fs {t = t} e f = sym (not-not t) ∙ sym (ap not f) ∙ ap is_none e ∙ nothing_wrong fs
 
 -- the settings keep the rules
 pub record Kept (s : Settings) : Type 0 where
@@ -73,13 +70,13 @@ fit_data VideoMode v a f = fit_last (1 ∷ 1 ∷ []) 2 1 v (λ _. omega (arith, 
 fit_data PatternSequence v a f = fit_last (1 ∷ 1 ∷ 1 ∷ 1 ∷ 4 ∷ 4 ∷ 4 ∷ []) 4 1 v (λ _. omega (arith, most (get_or v 7 0) 2 (λ e. simp (e, and-false)) a)) f
 fit_data SequenceRun v a f = fit_last [] 4 1 v (λ _. omega (arith, most (get_or v 0 0) 1 (λ e. simp e) a)) f
 
-all_allowed_lem : (s : Settings) (cs : List Command) (c : Command) → find (cmd1_for c) (cmd2_for c) cs ≡ Known c → all_allowed s cs ≡ true → allowed c (values_of c s) ≡ true
+all_allowed_lem : (s : Settings) (cs : List Command) (c : Command) → find (cmd1_for c) (cmd2_for c) cs ≡ Some c → all_allowed s cs ≡ true → allowed c (values_of c s) ≡ true
 unfolding all_allowed find
 all_allowed_lem s [] c e h = let z : ◌≡◌ {A = ℕ} 0 1 = cc in absurd (omega arith)
 all_allowed_lem s (d ∷ cs) c e h =
     bool_cases (same c d)
     (λ t. rw (same_eq c d t) (and_left _ (all_allowed s cs) h))
-    (λ t. all_allowed_lem s cs c (find_later d cs (cmd1_for c) (cmd2_for c) (Known c) t e) (and_right (allowed d (values_of d s)) _ h))
+    (λ t. all_allowed_lem s cs c (find_later d cs (cmd1_for c) (cmd2_for c) (Some c) t e) (and_right (allowed d (values_of d s)) _ h))
 
 each_allowed : (s : Settings) → ((c : Command) → allowed c (values_of c s) ≡ true) → (cs : List Command) → all_allowed s cs ≡ true
 unfolding all_allowed

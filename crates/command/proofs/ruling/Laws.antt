@@ -1,4 +1,5 @@
 -- The error codes as the bits of one number, and back.
+use Rattle.std.specs.Prelude.{None}
 use Prim.Native.Nat.{ℕ, ◌+◌, ◌*◌, ◌/◌, ◌%◌, ◌≤◌}
 use mathlib.Core.Path.{◌≡◌, ap, ◌∙◌}
 use mathlib.Core.Bool.{Bool, true, false, cond}
@@ -6,7 +7,6 @@ use native.Mathlib.Omega.{arith}
 use lib.Dec.{eqb}
 use Rattle.command.specs.Ruling.{has_bit, mask_of, codes_told}
 use Rattle.command.specs.declared.faults.Codes.{Codes}
-use Rattle.command.specs.declared.rules.WrongByte.TheVariants.{Nothing}
 
 -- a code as a number, 1 where it holds
 one : Bool → ℕ
@@ -80,7 +80,7 @@ codes_alone k =
       checksum = k.checksum;
       format = k.format;
       continuation = k.continuation;
-      wrong = Nothing;
+      wrong = None;
     }
 
 module _ (k : Codes) where

@@ -1,4 +1,5 @@
 -- Laws of the table, and of settings as lists of values.
+use Rattle.std.specs.Prelude.{Option, Some}
 use Prim.Native.Nat.{ℕ, zero, suc, ◌≤◌}
 use mathlib.Core.Path.{◌≡◌, refl, ap, sym, ◌∙◌}
 use mathlib.Core.Bool.{Bool, true, false, cond}
@@ -14,8 +15,6 @@ use Rattle.command.specs.Table.{table, cmd1_for, cmd2_for, has_code, find, comma
 use Rattle.command.specs.Settings.{values_of, settings_of}
 use Rattle.command.specs.declared.table.Command.{Command}
 use Rattle.command.specs.declared.table.Command.TheVariants.{DisplayMode, TestPattern, LedCurrent, StaticColour, DisplaySetting, VideoInput, VideoMode, PatternSequence, SequenceRun}
-use Rattle.command.specs.declared.table.Found.{Found}
-use Rattle.command.specs.declared.table.Found.TheVariants.{Known}
 
 -- what holds of each command of the table holds of all
 pub each : (P : Command → Type 0)
@@ -33,32 +32,32 @@ each P h PatternSequence = h.7
 each P h SequenceRun = h.8
 
 -- a command is found by its bytes
-pub found : (c : Command) → command_of (cmd1_for c) (cmd2_for c) ≡ Known c
+pub found : (c : Command) → command_of (cmd1_for c) (cmd2_for c) ≡ Some c
 unfolding command_of find
-found = each (λ c. command_of (cmd1_for c) (cmd2_for c) ≡ Known c) (refl, refl, refl, refl, refl, refl, refl, refl, refl)
+found = each (λ c. command_of (cmd1_for c) (cmd2_for c) ≡ Some c) (refl, refl, refl, refl, refl, refl, refl, refl, refl)
 
 has_code_lem : (a b : ℕ) (c : Command) → has_code a b c ≡ true → (a ≡ cmd1_for c) × (b ≡ cmd2_for c)
 has_code_lem a b c h = (eqb-true _ _ (and_left _ _ h), eqb-true _ _ (and_right (eqb a (cmd1_for c)) _ h))
 
 -- where the first command has other bytes, the search goes on
-pub find_later : (d : Command) (cs : List Command) (a b : ℕ) (f : Found) → has_code a b d ≡ false → find a b (d ∷ cs) ≡ f → find a b cs ≡ f
+pub find_later : (d : Command) (cs : List Command) (a b : ℕ) (f : Option Command) → has_code a b d ≡ false → find a b (d ∷ cs) ≡ f → find a b cs ≡ f
 unfolding find
-find_later d cs a b f e h = sym (ap (λ (t : Bool). cond t (Known d) (find a b cs)) e) ∙ h
+find_later d cs a b f e h = sym (ap (λ (t : Bool). cond t (Some d) (find a b cs)) e) ∙ h
 
 -- one command is found
-pub same_known : (x y : Command) → Known x ≡ Known y → x ≡ y
+pub same_known : (x y : Command) → Some x ≡ Some y → x ≡ y
 same_known x y e = cc
 
 -- what is found has those bytes
-find_code : (cs : List Command) (a b : ℕ) (c : Command) → find a b cs ≡ Known c → (a ≡ cmd1_for c) × (b ≡ cmd2_for c)
+find_code : (cs : List Command) (a b : ℕ) (c : Command) → find a b cs ≡ Some c → (a ≡ cmd1_for c) × (b ≡ cmd2_for c)
 unfolding find
 find_code [] a b c h = let z : ◌≡◌ {A = ℕ} 0 1 = cc in absurd (omega arith)
 find_code (d ∷ cs) a b c h =
     bool_cases (has_code a b d)
-    (λ e. rw (same_known d c (sym (ap (λ (t : Bool). cond t (Known d) (find a b cs)) e) ∙ h)) at (has_code_lem a b d e))
-    (λ e. find_code cs a b c (find_later d cs a b (Known c) e h))
+    (λ e. rw (same_known d c (sym (ap (λ (t : Bool). cond t (Some d) (find a b cs)) e) ∙ h)) at (has_code_lem a b d e))
+    (λ e. find_code cs a b c (find_later d cs a b (Some c) e h))
 
-pub known_code : (a b : ℕ) (c : Command) → command_of a b ≡ Known c → (a ≡ cmd1_for c) × (b ≡ cmd2_for c)
+pub known_code : (a b : ℕ) (c : Command) → command_of a b ≡ Some c → (a ≡ cmd1_for c) × (b ≡ cmd2_for c)
 unfolding command_of
 known_code a b c h = find_code table a b c h
 

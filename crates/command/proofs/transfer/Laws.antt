@@ -1,4 +1,5 @@
 -- What no fault of the first group says of a packet, and a transfer by the controller's numbers.
+use Rattle.std.specs.Prelude.{Option, None, Some}
 use Prim.Native.Nat.{ℕ, ◌+◌, ◌≤◌}
 use mathlib.Core.Path.{◌≡◌, refl, ap, ap₂, sym, subst, ◌∙◌}
 use mathlib.Core.Bool.{Bool, true, false, not, ◌&&◌, ◌||◌, and-true}
@@ -16,8 +17,6 @@ use Rattle.command.specs.Faults.{Arrived, continues, wrong_command, too_long, wr
 use Rattle.command.specs.Controller.{held_in, transfer_in, transfer_in_rule}
 use Rattle.command.specs.Inner.{is_open_in, open_for_in, faults_of}
 use Rattle.command.specs.declared.table.Command.{Command}
-use Rattle.command.specs.declared.table.Found.{Found}
-use Rattle.command.specs.declared.table.Found.TheVariants.{Known, Unknown}
 use Rattle.command.specs.declared.transfer.TransferState.{TransferState}
 use Rattle.command.proofs.table.Laws.{known_code}
 
@@ -29,13 +28,13 @@ none_of_four a b c d h =
     let ab = or_left (a || b) c abc in
     (or_left a b ab, or_right a b ab, or_right (a || b) c abc, or_right (a || b || c) d h)
 
-pub record Faultless (f : Found) (t : Transfer) (p : Arrived) : Type 0 where
+pub record Faultless (f : Option Command) (t : Transfer) (p : Arrived) : Type 0 where
   pub command : wrong_command f p.type ≡ false
   pub memory : too_long (is_open t) (length (held t)) p.flags p.size ≡ false
   pub checksum : p.right ≡ true
   pub continuation : wrong_order (is_open t) (open_for f t) p.type p.flags ≡ false
 
-pub faultless : (f : Found) (t : Transfer) (p : Arrived) → any_fault (faults f t p) ≡ false → Faultless f t p
+pub faultless : (f : Option Command) (t : Transfer) (p : Arrived) → any_fault (faults f t p) ≡ false → Faultless f t p
 unfolding any_fault faults faults_of
 faultless f t p h =
     let n =
@@ -75,28 +74,28 @@ own_command : (o : Bool) (type flags : ℕ) → wrong_order true o type flags �
 own_command o type flags h =
     not-false o (sym (ap (λ (b : Bool). b && not o) (continues_open o type flags h)) ∙ (order_parts true o type flags h).2)
 
-pub in_order_lem : (c : Command) (t : Transfer) (p : Arrived) → any_fault (faults (Known c) t p) ≡ false → (not (is_open t) || open_for (Known c) t) ≡ true
-in_order_lem c t p h = go t (faultless (Known c) t p h).continuation
+pub in_order_lem : (c : Command) (t : Transfer) (p : Arrived) → any_fault (faults (Some c) t p) ≡ false → (not (is_open t) || open_for (Some c) t) ≡ true
+in_order_lem c t p h = go t (faultless (Some c) t p h).continuation
   where
-    go : (t : Transfer) → wrong_order (is_open t) (open_for (Known c) t) p.type p.flags ≡ false → (not (is_open t) || open_for (Known c) t) ≡ true
+    go : (t : Transfer) → wrong_order (is_open t) (open_for (Some c) t) p.type p.flags ≡ false → (not (is_open t) || open_for (Some c) t) ≡ true
     go Closed o = refl
     go (Opened d x) o = own_command (same c d) p.type p.flags o
 
 -- a read comes while no transfer is open, and its command can be read
-pub reads_alone : (c : Command) (t : Transfer) (p : Arrived) → any_fault (faults (Known c) t p) ≡ false → eqb p.type host_read ≡ true
+pub reads_alone : (c : Command) (t : Transfer) (p : Arrived) → any_fault (faults (Some c) t p) ≡ false → eqb p.type host_read ≡ true
     → (is_open t ≡ false) × (readable c ≡ true)
 unfolding wrong_command
 reads_alone c t p h r =
-    let k = faultless (Known c) t p h in
+    let k = faultless (Some c) t p h in
     let e : p.type ≡ host_read = eqb-true p.type host_read r in
-    let n = order_parts (is_open t) (open_for (Known c) t) host_read p.flags (rw e at k.continuation) in
-    let w : wrong_command (Known c) host_read ≡ false = rw e at k.command in (
+    let n = order_parts (is_open t) (open_for (Some c) t) host_read p.flags (rw e at k.continuation) in
+    let w : wrong_command (Some c) host_read ≡ false = rw e at k.command in (
       sym (ap (λ (b : Bool). (b || eqb p.flags beginning) && is_open t) (not-false (eqb p.flags whole) n.1)) ∙ n.3,
       not-false (readable c) w,
     )
 
 -- the held bytes and the payload fit the hold
-pub fits_hold : (f : Found) (t : Transfer) (p : Arrived) → any_fault (faults f t p) ≡ false → length (held t) + p.size ≤ 1024
+pub fits_hold : (f : Option Command) (t : Transfer) (p : Arrived) → any_fault (faults f t p) ≡ false → length (held t) + p.size ≤ 1024
 fits_hold f t p h = let k = faultless f t p h in go t k.memory k.continuation
   where
     go : (t : Transfer) → too_long (is_open t) (length (held t)) p.flags p.size ≡ false → wrong_order (is_open t) (open_for f t) p.type p.flags ≡ false
@@ -110,7 +109,7 @@ fits_hold f t p h = let k = faultless f t p h in go t k.memory k.continuation
 
 -- A transfer by the controller's numbers, in rule: none is open, or one for a command of the table.
 module _ (t : TransferState) (r : transfer_in_rule t ≡ true) where
-  pub by_transfer : {P : Type 0} → (eqb t.active 0 ≡ true → P) → ((c : Command) → eqb t.active 0 ≡ false → command_of t.cmd1 t.cmd2 ≡ Known c → P) → P
+  pub by_transfer : {P : Type 0} → (eqb t.active 0 ≡ true → P) → ((c : Command) → eqb t.active 0 ≡ false → command_of t.cmd1 t.cmd2 ≡ Some c → P) → P
   unfolding transfer_in_rule
   by_transfer none some =
       bool_cases (eqb t.active 0) none
@@ -119,9 +118,9 @@ module _ (t : TransferState) (r : transfer_in_rule t ≡ true) where
       (and_right (leb t.held 1024) (eqb t.active 0 || is_known (command_of t.cmd1 t.cmd2)) r))
       (λ c k. some c e k))
     where
-      known : {P : Type 0} (f : Found) → command_of t.cmd1 t.cmd2 ≡ f → is_known f ≡ true → ((c : Command) → command_of t.cmd1 t.cmd2 ≡ Known c → P) → P
-      known Unknown e k g = let z : ◌≡◌ {A = ℕ} 0 1 = cc in absurd (omega arith)
-      known (Known c) e k g = g c e
+      known : {P : Type 0} (f : Option Command) → command_of t.cmd1 t.cmd2 ≡ f → is_known f ≡ true → ((c : Command) → command_of t.cmd1 t.cmd2 ≡ Some c → P) → P
+      known None e k g = let z : ◌≡◌ {A = ℕ} 0 1 = cc in absurd (omega arith)
+      known (Some c) e k g = g c e
 
   pub count_most : t.held ≤ 1024
   unfolding transfer_in_rule
@@ -130,7 +129,7 @@ module _ (t : TransferState) (r : transfer_in_rule t ≡ true) where
   pub held_most : held_in t ≤ 1024
   held_most = bool_cases (eqb t.active 0) (λ e. rw e (omega arith)) (λ e. rw e count_most)
 
-  same_code : (c d : Command) → command_of t.cmd1 t.cmd2 ≡ Known d → same c d ≡ has_code t.cmd1 t.cmd2 c
+  same_code : (c d : Command) → command_of t.cmd1 t.cmd2 ≡ Some d → same c d ≡ has_code t.cmd1 t.cmd2 c
   same_code c d k =
       let q = known_code t.cmd1 t.cmd2 d k in
       rw (q.0, q.1) (ap₂ ◌&&◌ (eqb_swap (cmd1_for c) (cmd1_for d)) (eqb_swap (cmd2_for c) (cmd2_for d)))
@@ -149,16 +148,16 @@ module _ (t : TransferState) (r : transfer_in_rule t ≡ true) where
     pub open_is : is_open (transfer_in t buffer) ≡ is_open_in t
     open_is = by_transfer (λ e. rw e) (λ c e k. rw (e, k))
 
-    pub open_for_is : (f : Found) → open_for f (transfer_in t buffer) ≡ open_for_in f t
-    open_for_is Unknown = refl
-    open_for_is (Known c) = by_transfer (λ e. rw e) (λ d e k. rw (e, k) (same_code c d k))
+    pub open_for_is : (f : Option Command) → open_for f (transfer_in t buffer) ≡ open_for_in f t
+    open_for_is None = refl
+    open_for_is (Some c) = by_transfer (λ e. rw e) (λ d e k. rw (e, k) (same_code c d k))
 
     module _ (n : length buffer ≡ 1024) where
       pub held_length : length (held (transfer_in t buffer)) ≡ held_in t
       held_length = ap length held_is ∙ length-take-le (held_in t) buffer (omega (arith, held_most))
 
       -- the codes of the first group
-      pub faults_are : (f : Found) (p : Arrived)
+      pub faults_are : (f : Option Command) (p : Arrived)
           → faults f (transfer_in t buffer) p ≡ faults_of f (is_open_in t) (open_for_in f t) (held_in t) p.type p.flags p.size p.right
       unfolding faults faults_of
       faults_are f p = rw (open_is, open_for_is f, held_length)

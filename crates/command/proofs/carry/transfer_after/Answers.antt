@@ -4,4 +4,4 @@ use Rattle.command.proofs.transfer.Laws.{held_most}
 use Rattle.command.proofs.carry.transfer_after.Goals as goal
 
 pub overflow_add-result : goal.overflow_add-result
-overflow_add-result c = omega (arith, c.held-held.ensures, held_most c.args.t c.requires.0, c.requires.1)
+overflow_add-result c = omega (arith, c.held-held.ensures, held_most c.args.t c.requires)

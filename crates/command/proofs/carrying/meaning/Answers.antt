@@ -6,34 +6,34 @@ use Rattle.command.proofs.carrying.meaning.Goals as goal
 
 pub returns-then-any : goal.returns-then-any
 returns-then-any c =
-    let a = c.args in
+    let j = c.args.judgement.now in
     sym
-    (drawn_told a.n a.joined.now (ne_eqb a.n.codes 0 c.if-n-ne0.true)
+    (drawn_told j.ruling j.joined (ne_eqb j.ruling.codes 0 c.if-n-ne0.true)
     ∙ rw (← c.told-k.ensures, ← c.any.ensures, c.if-any.true))
 
 pub returns-then-n-ne0 : goal.returns-then-n-ne0
 returns-then-n-ne0 c =
-    let a = c.args in
+    let j = c.args.judgement.now in
     sym
-    (drawn_told a.n a.joined.now (ne_eqb a.n.codes 0 c.if-n-ne0.true)
+    (drawn_told j.ruling j.joined (ne_eqb j.ruling.codes 0 c.if-n-ne0.true)
     ∙ rw (← c.told-k.ensures, ← c.any.ensures, c.if-any.false))
 
 pub returns-then-not-ruling_in_rule : goal.returns-then-not-ruling_in_rule
 returns-then-not-ruling_in_rule c =
-    let a = c.args in
+    let j = c.args.judgement.now in
     sym
-    (drawn_out a.n a.joined.now (eq-eqb a.n.codes 0 c.if-n-ne0.false)
+    (drawn_out j.ruling j.joined (eq-eqb j.ruling.codes 0 c.if-n-ne0.false)
     (sym c.ruling_in_rule.ensures ∙ c.if-not-ruling_in_rule.true))
 
-pub returns-in_default : goal.returns-in_default
-returns-in_default c =
-    let a = c.args in
-    sym (drawn_unknown a.n a.joined.now (eq-eqb a.n.codes 0 c.if-n-ne0.false) (sym c.find.ensures ∙ c.in_default.is))
+pub returns-in_err-c : goal.returns-in_err-c
+returns-in_err-c c =
+    let j = c.args.judgement.now in
+    c.from_residual.ensures ∙ sym (drawn_unknown j.ruling j.joined (eq-eqb j.ruling.codes 0 c.if-n-ne0.false) (sym c.find.ensures ∙ c.in_err-c.was))
 
 pub returns : goal.returns
 returns c =
-    let a = c.args in
+    let j = c.args.judgement.now in
     c.accepted.ensures
     ∙ sym
-    (drawn_known a.n a.joined.now c.in-Known.c (eq-eqb a.n.codes 0 c.if-n-ne0.false) (sym c.in-Known.ensures)
+    (drawn_known j.ruling j.joined c.in_ok-c.c (eq-eqb j.ruling.codes 0 c.if-n-ne0.false) (sym c.find.ensures ∙ c.in_ok-c.was)
     (sym c.ruling_in_rule.ensures ∙ c.if-not-ruling_in_rule.false))

@@ -15,6 +15,7 @@ returns c =
       c.too_long.ensures,
       c.wrong_order.ensures,
       c.held-held.ensures,
+      c.is_open-active.ensures,
       c.open_for-ours.ensures,
       c.word-size.ensures.0,
     )

@@ -5,4 +5,4 @@ use Rattle.command.proofs.rules.Laws.{tested}
 use Rattle.command.proofs.rules.allowed.Goals as goal
 
 pub returns : goal.returns
-returns c = let v = c.args.v in tested (fields_of (command_in v) (values_in v)) c.wrong_byte.ensures c.is_nothing.ensures
+returns c = let v = c.args.v in tested (fields_of (command_in v) (values_in v)) c.wrong_byte.ensures c.is_none.ensures

@@ -1,26 +1,14 @@
 -- `supported` meets its contract.
-use Rattle.std.proofs.Common.{◌-◌, refl, sym, arith}
-use Rattle.command.proofs.rules.Pairs.{entries, all_listed, same, other, at_first, found, further, at_last}
+use Rattle.std.proofs.Common.{◌∙◌, rules}
+use Rattle.std.proofs.lemmas.Iterator.Adapters.{YieldsList-from_rev_slice}
+use Rattle.std.proofs.lemmas.Iterator.Search.{any_from_yields_List}
+use Rattle.command.specs.declared.rules.TheConstants.{SUPPORTED_RESOLUTIONS}
+use Rattle.command.proofs.rules.Pairs.{is_at, packed_alike, table_listed}
 use Rattle.command.proofs.rules.supported.Goals as goal
 
-pub loop-k-init : goal.loop-k-init
-unfolding entries all_listed
-loop-k-init c = at_first c.args.x c.args.y _ refl refl
-
-pub loop-k-preserved : goal.loop-k-preserved
-loop-k-preserved c =
-    let q = c.args in
-    let k = c.loop-k.k in
-    further q.x q.y _ k c.loop-k.invariant (omega arith)
-    (other q.x q.y _ (k - 1) _ _ c.packed-wanted.ensures c.packed.ensures c.if-wanted-packed.false)
-
-pub returns-then-wanted-packed : goal.returns-then-wanted-packed
-returns-then-wanted-packed c =
-    let q = c.args in
-    let k = c.loop-k.k in
-    sym
-    (found q.x q.y _ k c.loop-k.invariant (omega arith)
-    (same q.x q.y _ (k - 1) _ _ c.packed-wanted.ensures c.packed.ensures c.if-wanted-packed.true))
-
 pub returns : goal.returns
-returns c = sym (at_last c.args.x c.args.y _ c.loop-k.k c.loop-k.invariant (omega arith))
+returns c =
+    any_from_yields_List (is_at c.args.x c.args.y) _ _ _ c.any.ensures.ran
+    (YieldsList-from_rev_slice SUPPORTED_RESOLUTIONS cc)
+    (λ e b q k. search (rules, packed_alike))
+    ∙ table_listed c.args.x c.args.y

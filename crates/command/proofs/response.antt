@@ -1,0 +1,2 @@
+-- The lemmas of response.
+pub mod Listing
