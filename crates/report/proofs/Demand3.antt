@@ -4,7 +4,7 @@ use mathlib.Core.Logic.{◌↔◌}
 use mathlib.Core.Path.{◌≡◌, refl, ap, ap₂, sym, ◌∙◌, subst}
 use mathlib.Core.Bool.{Bool, true, false}
 use mathlib.Core.List.{List, [], ◌∷◌, ◌++◌, append-nil}
-use mathlib.Core.Option.{none}
+use Rattle.std.specs.Prelude.{None}
 use native.Mathlib.Omega.{arith}
 use borrow.Author.Tests.{le-ltb}
 use lib.ListN.{length, take}
@@ -24,18 +24,18 @@ use Rattle.report.specs.Report.{Trial, Report, read_report, score_at, end_from, 
 use Rattle.report.specs.Claim.{record_of, head_of, trial_of, trial_records, report_of, FirstLowest, Ships, Claim, Listed, Standard, Lists, Demand3}
 use Rattle.report.specs.Refusals.{shipping_byte, Fault, F17, F18, F19, Refusal, Later}
 use Rattle.report.proofs.record.Laws.{run, pass, pass_none}
-use Rattle.report.proofs.same.Laws.{settings_true, settings_refl}
+use Rattle.report.proofs.verdict.Same.{settings_true, settings_refl}
 use Rattle.report.proofs.trials.Laws.{lowest_true, lowest_back}
 use Rattle.report.proofs.verdict.Laid.{reading_whole}
 use Rattle.report.proofs.verdict.Reading.{Ends, bad, good, then, needs, needs_none, Laid, reading_report}
 
 -- The test of what ships, and the claim: nothing offends.
-pub ships_none : (f : Settings) (b : List ℕ) → offence f b ≡ none → Ships f b
+pub ships_none : (f : Settings) (b : List ℕ) → offence f b ≡ None → Ships f b
 ships_none f b h =
     let c = (none_named f b).0 h in
     record { acknowledged = c.0; closed = c.1; finished = c.2 }
 
-pub nothing_offends : (f : Settings) (b : List ℕ) → Ships f b → offence f b ≡ none
+pub nothing_offends : (f : Settings) (b : List ℕ) → Ships f b → offence f b ≡ None
 nothing_offends f b s = (none_named f b).1 (s.acknowledged, s.closed, s.finished)
 
 -- From the verdict to the claim: the report was read, and passed the last three tests.
@@ -47,7 +47,7 @@ record Passed (r : List ℕ) (p : Report) : Type 0 where
 
 -- a test that fails where a fact would pass it
 fails : {P : Type 0} (t : Bool) → t ≡ false → (P → t ≡ true) → P → ⊥
-fails t e f h = let z : ◌≡◌ {A = ℕ} 0 1 = cc (f h) in omega arith
+fails t e f h = cc (f h)
 
 checking : (r : List ℕ) (p : Report) → Laid r p → Ends (Refusal r) (Passed r) (check_report factory p)
 unfolding check_report

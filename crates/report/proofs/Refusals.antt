@@ -19,7 +19,7 @@ use Rattle.report.specs.Report.{Trial, Report, read_trials, read_head, read_end,
 use Rattle.report.specs.Claim.{record_of, head_of, trial_records, report_of, Scores, Layout, FirstLowest, Ships}
 use Rattle.report.specs.Refusals.{shipping_byte, Begins, Due, Head, More, Winner, Shipping, WrongLength, NotFour, UnderFour, NotTwo, Fault, F11, F12, F13, F14, F15, F16, F17, F18, F19, F20, Refusal, Long, Later}
 use Rattle.report.proofs.record.Laws.{run, stop, pass, pass_none, fail, fail_some, short_body, other_kind, wrong_size}
-use Rattle.report.proofs.same.Laws.{settings_true}
+use Rattle.report.proofs.verdict.Same.{settings_true}
 use Rattle.report.proofs.trials.Laws.{lowest_true, lowest_back}
 use Rattle.report.proofs.verdict.Laid.{length_before, length_report, count_bound, length_there, kind_there, whole_there, reading_record, head_laid, to_trials, reading_prefix, to_winner, winner_laid, to_shipping, reading_whole}
 use Rattle.report.proofs.Demand3.{nothing_offends, Says, verdict_says}

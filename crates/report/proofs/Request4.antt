@@ -3,7 +3,7 @@ use Prim.Native.Nat.{ℕ, ◌+◌, ◌<◌, ◌≤◌}
 use mathlib.Core.Path.{◌≡◌, refl, ap, sym, subst, ◌∙◌}
 use mathlib.Core.Logic.{◌↔◌}
 use mathlib.Core.List.{List, ◌++◌, append_assoc}
-use mathlib.Core.Option.{Option, none, some}
+use Rattle.std.specs.Prelude.{Option, None, Some}
 use native.Mathlib.Omega.{arith}
 use lib.ListN.{length, take, drop, length-append}
 use lib.Seq.{drop_at, drop-drop}
@@ -18,7 +18,7 @@ use Rattle.report.specs.Report.{Trial, end_from, same_settings, Refused, verdict
 use Rattle.report.specs.Claim.{record_of, head_of, trial_records, report_of, Layout, FirstLowest, Ships}
 use Rattle.report.specs.Refusals.{shipping_byte, F18, F19, Later}
 use Rattle.report.specs.Request4.{Reaches, Request4}
-use Rattle.report.proofs.same.Laws.{settings_true, settings_refl}
+use Rattle.report.proofs.verdict.Same.{settings_true, settings_refl}
 use Rattle.report.proofs.verdict.Laid.{length_report}
 use Rattle.report.proofs.Demand3.{ships_none, claimed}
 use Rattle.report.proofs.Refusals.{refused_exactly}
@@ -28,8 +28,8 @@ pub first_of : (s : Settings) (b : List ℕ) (m : ℕ) → Offends s b m → (n 
 first_of s b m h = go (offence s b) refl
   where
     go : (o : Option ℕ) → offence s b ≡ o → (n : ℕ) × Earliest s b n
-    go none e = absurd (none_offends s b e m h)
-    go (some n) e = (n, (earliest_named s b n).0 e)
+    go None e = absurd (none_offends s b e m h)
+    go (Some n) e = (n, (earliest_named s b n).0 e)
 
 pub refused_18 : (r : List ℕ) → Bytes r → length r ≤ 60000 → (ts : List Trial) (k : ℕ) (ship : List ℕ) (n : ℕ) → Layout r ts k ship → FirstLowest ts k
     → Earliest factory ship n
@@ -57,11 +57,11 @@ module _ (r : List ℕ) (ts : List Trial) (k : ℕ) (ship : List ℕ) (b : Bytes
         ships = s;
         equal = settings_true played end t;
       }) in
-      let z : ◌≡◌ {A = ℕ} 0 1 = cc in omega arith)
+      cc)
       (λ t.
       let unlike : played ≡ end → ⊥ = λ q. never (sym t ∙ ap (λ (x : Settings). same_settings x end) q ∙ settings_refl end) in
       let v = (refused_exactly r 19 _ b).1 (Later 19 _ h.short (F19 ts k ship h.layout h.lowest s unlike)) in
-      let z : ◌≡◌ {A = ℕ} 19 18 = cc in omega arith)
+      cc)
 
   earliest_18 : (n : ℕ) → Earliest factory ship n → verdict r ≡ Refused 18 (shipping_byte ts n)
   earliest_18 n = refused_18 r b h.short ts k ship n h.layout h.lowest
@@ -70,15 +70,15 @@ module _ (r : List ℕ) (ts : List Trial) (k : ℕ) (ship : List ℕ) (b : Bytes
   refuses_18 = (λ x s. ships_not_18 s x.0 x.1, λ f. go f (offence factory ship) refl)
     where
       go : (Ships factory ship → ⊥) → (o : Option ℕ) → offence factory ship ≡ o → (p : ℕ) × (verdict r ≡ Refused 18 p)
-      go f none e = absurd (f (ships_none factory ship e))
-      go f (some m) e = (shipping_byte ts m, earliest_18 m ((earliest_named factory ship m).0 e))
+      go f None e = absurd (f (ships_none factory ship e))
+      go f (Some m) e = (shipping_byte ts m, earliest_18 m ((earliest_named factory ship m).0 e))
 
   exactly_18 : (n : ℕ) → (verdict r ≡ Refused 18 (shipping_byte ts n)) ↔ Earliest factory ship n
   exactly_18 n = (λ e. go e (offence factory ship) refl, earliest_18 n)
     where
       go : verdict r ≡ Refused 18 (shipping_byte ts n) → (o : Option ℕ) → offence factory ship ≡ o → Earliest factory ship n
-      go e none f = absurd (ships_not_18 (ships_none factory ship f) _ e)
-      go e (some m) f =
+      go e None f = absurd (ships_not_18 (ships_none factory ship f) _ e)
+      go e (Some m) f =
           let first = (earliest_named factory ship m).0 f in
           let v = earliest_18 m first in
           let place : shipping_byte ts m ≡ shipping_byte ts n = cc in

@@ -1,4 +1,5 @@
 -- The laws of verdict.
+pub mod Same
 pub mod Laid
 pub mod Reading
 pub mod Laws

@@ -1,8 +1,7 @@
 -- Examples about the rules: document 01's starred packets and reports, each row of the table at its limits, request 2's counts, each fault alone, and request 4's bytes and places. Packets go to a fresh factory head.
-use Rattle.std.specs.Prelude.{ℕ, Bool, true, false, not, ◌&&◌, List, [], ◌∷◌, ◌++◌, eqb, replicate}
+use Rattle.std.specs.Prelude.{ℕ, Bool, true, false, not, ◌&&◌, List, [], ◌∷◌, ◌++◌, eqb, replicate, Option, None, Some}
 use Prim.Native.String.{String}
-use Rattle.std.proofs.Math.Option.{Option, none, some}
-use Rattle.command.specs.Rules.{allowed, wrong_byte, byte_of}
+use Rattle.command.specs.Rules.{allowed, wrong_byte}
 use Rattle.command.specs.Settings.{values_of, factory}
 use Rattle.command.specs.declared.table.Command.{Command}
 use Rattle.command.specs.declared.table.Command.TheVariants.{DisplayMode, TestPattern, LedCurrent, StaticColour, DisplaySetting, VideoInput, VideoMode, PatternSequence, SequenceRun}
@@ -39,20 +38,20 @@ last_seen see nothing a (p ∷ q ∷ ps) = last_seen see nothing (next a p) (q �
 
 -- the same place, or none
 abbrev pub same_place : Option ℕ → Option ℕ → Bool
-same_place none none = true
-same_place none (some n) = false
-same_place (some m) none = false
-same_place (some m) (some n) = eqb m n
+same_place None None = true
+same_place None (Some n) = false
+same_place (Some m) None = false
+same_place (Some m) (Some n) = eqb m n
 
 unfoldable pub holds : Example → Bool
 holds (Answers b r) = same_list (answers_to factory b) r
 holds (Leaves b c v) = same_list (values_of c (play factory b).settings) v
 holds (Draws ps k) = same_list (last_seen (λ a p. codes_in (judged a p)) [] (from factory) ps) k
-holds (Reports ps n) = same_place (last_seen (λ a p. wrong_in (judged a p)) none (from factory) ps) n
+holds (Reports ps n) = same_place (last_seen (λ a p. wrong_in (judged a p)) None (from factory) ps) n
 holds (Offends b n) = same_place (offence factory b) n
 holds (Allows c v) = allowed c v
 holds (Forbids c v) = not (allowed c v)
-holds (Names c v n) = same_place (byte_of (wrong_byte c v)) (some n)
+holds (Names c v n) = same_place (wrong_byte c v) (Some n)
 holds (Prints r t) = same_list (line_of (verdict r)) (text_of t)
 
 unfoldable pub hold : List Example → Bool
@@ -281,16 +280,16 @@ wrong_bytes =
     ∷ Names PatternSequence (4 ∷ 24 ∷ 0 ∷ 5 ∷ 0 ∷ 0 ∷ 0 ∷ 3 ∷ []) 16
     ∷ Names SequenceRun (2 ∷ []) 0
     -- green 1025: the first byte of the field, with code 03; with another code there is none
-    ∷ Reports ((0x02 ∷ 0x01 ∷ 0x04 ∷ 0x00 ∷ 0x06 ∷ 0x00 ∷ 0x00 ∷ 0x00 ∷ 0x01 ∷ 0x04 ∷ 0x00 ∷ 0x00 ∷ 0x12 ∷ []) ∷ []) (some 2)
-    ∷ Reports ((0x02 ∷ 0x01 ∷ 0x04 ∷ 0x00 ∷ 0x06 ∷ 0x00 ∷ 0x00 ∷ 0x00 ∷ 0x01 ∷ 0x04 ∷ 0x00 ∷ 0x00 ∷ 0x13 ∷ []) ∷ []) none
-    ∷ Reports ((0x02 ∷ 0x01 ∷ 0x03 ∷ 0x00 ∷ 0x02 ∷ 0x00 ∷ 0x0E ∷ 0x00 ∷ 0x16 ∷ []) ∷ []) none
-    ∷ Reports ((0x02 ∷ 0x04 ∷ 0x02 ∷ 0x00 ∷ 0x01 ∷ 0x00 ∷ 0x01 ∷ 0x0A ∷ []) ∷ []) none
-    ∷ Reports ((0x02 ∷ 0x01 ∷ 0x03 ∷ 0x00 ∷ 0x01 ∷ 0x00 ∷ 0x05 ∷ 0x0C ∷ []) ∷ []) none
-    ∷ Reports ((0x04 ∷ 0x01 ∷ 0x03 ∷ 0x00 ∷ 0x00 ∷ 0x00 ∷ 0x08 ∷ []) ∷ []) none
+    ∷ Reports ((0x02 ∷ 0x01 ∷ 0x04 ∷ 0x00 ∷ 0x06 ∷ 0x00 ∷ 0x00 ∷ 0x00 ∷ 0x01 ∷ 0x04 ∷ 0x00 ∷ 0x00 ∷ 0x12 ∷ []) ∷ []) (Some 2)
+    ∷ Reports ((0x02 ∷ 0x01 ∷ 0x04 ∷ 0x00 ∷ 0x06 ∷ 0x00 ∷ 0x00 ∷ 0x00 ∷ 0x01 ∷ 0x04 ∷ 0x00 ∷ 0x00 ∷ 0x13 ∷ []) ∷ []) None
+    ∷ Reports ((0x02 ∷ 0x01 ∷ 0x03 ∷ 0x00 ∷ 0x02 ∷ 0x00 ∷ 0x0E ∷ 0x00 ∷ 0x16 ∷ []) ∷ []) None
+    ∷ Reports ((0x02 ∷ 0x04 ∷ 0x02 ∷ 0x00 ∷ 0x01 ∷ 0x00 ∷ 0x01 ∷ 0x0A ∷ []) ∷ []) None
+    ∷ Reports ((0x02 ∷ 0x01 ∷ 0x03 ∷ 0x00 ∷ 0x01 ∷ 0x00 ∷ 0x05 ∷ 0x0C ∷ []) ∷ []) None
+    ∷ Reports ((0x04 ∷ 0x01 ∷ 0x03 ∷ 0x00 ∷ 0x00 ∷ 0x00 ∷ 0x08 ∷ []) ∷ []) None
     -- in a transfer it counts in the joined data: 40 patterns at depth 4, the count being byte 0 of the last packet's payload
     ∷ Reports
     ((0x02 ∷ 0x04 ∷ 0x00 ∷ 0x01 ∷ 0x01 ∷ 0x00 ∷ 0x04 ∷ 0x0C ∷ []) ∷ ((0x02 ∷ 0x04 ∷ 0x00 ∷ 0x03 ∷ 0x10 ∷ 0x00 ∷ 40 ∷ replicate 15 0) ++ (0x41 ∷ [])) ∷ [])
-    (some 1)
+    (Some 1)
     ∷ []
 
 -- and where bytes offend: a test pattern written, one that is not allowed, one read, one in a transfer, and the first byte of a packet
@@ -314,23 +313,23 @@ ended = 0x02 ∷ 0x01 ∷ 0x03 ∷ 0x03 ∷ 0x01 ∷ 0x00 ∷ 0x05 ∷ 0x0F ∷ 
 
 abbrev pub places : List Example
 places =
-    Offends [] none
-    ∷ Offends written none
-    ∷ Offends (begun ++ ended) none
-    ∷ Offends not_allowed (some 0)
-    ∷ Offends read (some 0)
-    ∷ Offends begun (some 0)
-    ∷ Offends (written ++ (0x02 ∷ [])) (some 8)
+    Offends [] None
+    ∷ Offends written None
+    ∷ Offends (begun ++ ended) None
+    ∷ Offends not_allowed (Some 0)
+    ∷ Offends read (Some 0)
+    ∷ Offends begun (Some 0)
+    ∷ Offends (written ++ (0x02 ∷ [])) (Some 8)
     -- the first that is not acknowledged, whatever comes behind it
-    ∷ Offends (written ++ not_allowed ++ written ++ not_allowed) (some 8)
-    ∷ Offends (written ++ read ++ not_allowed ++ (0x02 ∷ [])) (some 8)
-    ∷ Offends (not_allowed ++ begun) (some 0)
+    ∷ Offends (written ++ not_allowed ++ written ++ not_allowed) (Some 8)
+    ∷ Offends (written ++ read ++ not_allowed ++ (0x02 ∷ [])) (Some 8)
+    ∷ Offends (not_allowed ++ begun) (Some 0)
     -- the packet that opened the transfer, not the one that added to it nor the unfinished one
-    ∷ Offends (written ++ begun ++ continued ++ (0x02 ∷ [])) (some 8)
-    ∷ Offends (begun ++ ended ++ begun ++ continued) (some 15)
+    ∷ Offends (written ++ begun ++ continued ++ (0x02 ∷ [])) (Some 8)
+    ∷ Offends (begun ++ ended ++ begun ++ continued) (Some 15)
     -- a transfer that an error closed is not left open: a whole write in a transfer draws 0B
-    ∷ Offends (begun ++ written ++ written) (some 7)
-    ∷ Offends (begun ++ written ++ begun) (some 7)
+    ∷ Offends (begun ++ written ++ written) (Some 7)
+    ∷ Offends (begun ++ written ++ begun) (Some 7)
     -- in reports, of which kind 4 is at 46: the place is that packet's
     ∷ Prints (two_trials ++ (0x10 ∷ 0x00 ∷ 0x04 ∷ 0x00 ∷ []) ++ written ++ not_allowed) "refused 18 at 58\n"
     ∷ Prints (two_trials ++ (0x09 ∷ 0x00 ∷ 0x04 ∷ 0x00 ∷ []) ++ written ++ (0x02 ∷ [])) "refused 18 at 58\n"

@@ -1,15 +1,27 @@
 -- For the code alone: what its functions have read, by the readings of specs/Report.antt. The laws that make the verdict of them, in proofs/verdict/Laws:
--- HeadAt `head_no`; BestAt, with First, `trials_no`; WinnerAt, with named_at, `winner_no`, `verdict_read`. RecordAt is the reading of specs/Record.antt,
--- DigitsOf the decimal of specs/Line.antt.
-use Rattle.std.specs.Prelude.{ℕ, ◌+◌, ◌<◌, ◌≤◌, ◌≡◌, true, List, eqb, length, take, drop}
+-- HeadAt `head_no`; BestAt, with First, `trials_no`; WinnerAt, with named_at, `winner_no`, `verdict_read`. RecordAt is the reading of specs/Record.antt.
+use Rattle.std.specs.Prelude.{ℕ, ◌+◌, ◌<◌, ◌≤◌, ◌≡◌, true, List, eqb, length, take, drop, Result, Ok, Err}
 use Rattle.command.specs.Settings.{factory}
 use Rattle.command.specs.declared.settings.Settings.{Settings}
 use Rattle.report.specs.Record.{Out, Bad, Good, ◌>>=◌, ◌>>◌, need, sized, reading}
 use Rattle.report.specs.Report.{Trial, Report, score_at, end_from, read_head, read_trials, read_end}
 use Rattle.report.specs.Claim.{FirstLowest}
-use Rattle.report.specs.Line.{decimal}
-use Rattle.report.specs.declared.record.Outcome.{Outcome}
-use Rattle.report.specs.declared.record.Outcome.TheVariants.{Value, Refused}
+use Rattle.report.specs.Verdict.{number_of}
+use Rattle.report.specs.declared.refusal.Refusal.{Refusal}
+use Rattle.report.specs.declared.record.Kind.{Kind}
+use Rattle.report.specs.declared.record.Kind.TheVariants as kind
+use Rattle.report.specs.declared.trials.Best.{Best}
+
+-- a refusal of the code, as the readings say it
+abbrev pub bad : {A : Type 0} → Refusal → Out A
+bad e = Bad (number_of e.reason) e.place
+
+-- the number of a kind
+abbrev pub kind_number : Kind → ℕ
+kind_number kind.Head = 1
+kind_number kind.Trial = 2
+kind_number kind.Winner = 3
+kind_number kind.Shipping = 4
 
 -- the record of this kind at a place of r has a body of n bytes
 pub record RecordIs (r : List ℕ) (kind at n : ℕ) : Type 0 where
@@ -17,9 +29,9 @@ pub record RecordIs (r : List ℕ) (kind at n : ℕ) : Type 0 where
   pub within : at + 4 + n ≤ length r
   pub right : sized kind n ≡ true
 
-abbrev pub RecordAt : List ℕ → ℕ → ℕ → Outcome → Type 0
-RecordAt r kind at (Value n) = RecordIs r kind at n
-RecordAt r kind at (Refused n p) = reading kind at (drop at r) ≡ Bad n p
+abbrev pub RecordAt : List ℕ → ℕ → ℕ → Result ℕ Refusal → Type 0
+RecordAt r kind at (Ok n) = RecordIs r kind at n
+RecordAt r kind at (Err e) = reading kind at (drop at r) ≡ bad e
 
 -- kind 1 of r counts n trials
 pub record HeadIs (r : List ℕ) (n : ℕ) : Type 0 where
@@ -28,9 +40,9 @@ pub record HeadIs (r : List ℕ) (n : ℕ) : Type 0 where
   pub within : 8 ≤ length r
   pub short : length r ≤ 60000
 
-abbrev pub HeadAt : List ℕ → Outcome → Type 0
-HeadAt r (Value n) = HeadIs r n
-HeadAt r (Refused n p) = read_head r ≡ Bad n p
+abbrev pub HeadAt : List ℕ → Result ℕ Refusal → Type 0
+HeadAt r (Ok n) = HeadIs r n
+HeadAt r (Err e) = read_head r ≡ bad e
 
 -- of these trials, trial k is the first of the lowest-scored, with this score and these end settings
 pub record First (ts : List Trial) (k score : ℕ) (e : Settings) : Type 0 where
@@ -47,9 +59,9 @@ pub record BestIs (r : List ℕ) (n at k score : ℕ) (e : Settings) : Type 0 wh
   pub within : at ≤ length r
   pub best : First list k score e
 
-abbrev pub BestAt : List ℕ → ℕ → Outcome → ℕ → ℕ → Settings → Type 0
-BestAt r n (Value at) k score e = BestIs r n at k score e
-BestAt r n (Refused x p) k score e = read_trials n 8 (drop 8 r) ≡ Bad x p
+abbrev pub BestAt : List ℕ → ℕ → Result (Best × ℕ) Refusal → Type 0
+BestAt r n (Ok (b, at)) = BestIs r n at b.trial b.score b.settings
+BestAt r n (Err e) = read_trials n 8 (drop 8 r) ≡ bad e
 
 -- what is read after n trials that end at this place, where trial best is the first of their lowest-scored: 17 comes after 20
 unfoldable pub named_at : List ℕ → ℕ → ℕ → ℕ → List Trial → Out Report
@@ -65,12 +77,6 @@ pub record WinnerIs (r : List ℕ) (at n best k : ℕ) : Type 0 where
   pub named : k ≡ best
   pub within : at + 10 ≤ length r
 
-abbrev pub WinnerAt : List ℕ → ℕ → ℕ → ℕ → Outcome → Type 0
-WinnerAt r at n best (Value k) = WinnerIs r at n best k
-WinnerAt r at n best (Refused x p) = (ts : List Trial) → named_at r at n best ts ≡ Bad x p
-
--- the decimal digits of n stand in an array of 20 bytes, from this place to its end
-pub record DigitsOf (n : ℕ) (bytes : List ℕ) (start : ℕ) : Type 0 where
-  pub reads : drop start bytes ≡ decimal n
-  pub within : start < 20
-  pub whole : length bytes ≡ 20
+abbrev pub WinnerAt : List ℕ → ℕ → ℕ → ℕ → Result ℕ Refusal → Type 0
+WinnerAt r at n best (Ok k) = WinnerIs r at n best k
+WinnerAt r at n best (Err e) = (ts : List Trial) → named_at r at n best ts ≡ bad e

@@ -1,6 +1,5 @@
 -- Records of the tuning report: a refusal or a value, and the record that is due.
-use Rattle.std.specs.Prelude.{ℕ, ◌+◌, Bool, true, false, cond, ◌&&◌, List, eqb, leb, length, take, drop}
-use Rattle.std.proofs.Math.Option.{Option, none, some}
+use Rattle.std.specs.Prelude.{ℕ, ◌+◌, Bool, true, false, cond, ◌&&◌, List, eqb, leb, length, take, drop, Option, None, Some}
 use Rattle.packet.specs.Number.{value_of}
 
 infixl 20 ◌>>=◌
@@ -25,8 +24,8 @@ need false n p = Bad n p
 
 -- refused with this number where something offends, at its place, which is counted from p
 unfoldable pub without : Option ℕ → ℕ → ℕ → Out Bool
-without none n p = Good true
-without (some k) n p = Bad n (p + k)
+without None n p = Good true
+without (Some k) n p = Bad n (p + k)
 
 -- a record's body, and the bytes after the record
 pub record Piece : Type 0 where

@@ -3,35 +3,30 @@
 ghost use Rattle.std.specs.Prelude.{◌≤◌, length};
 ghost use Rattle.report.specs.Inner.{WinnerAt};
 
-use crate::record::{HEADER, Outcome, SHIPPING, WINNER, record_at, refusal, word_at};
+use crate::record::{HEADER, Kind, record_at, word_at};
+use crate::refusal::{Reason, Refusal};
 
 // The bytes of kind 3, header and body.
 pub(crate) const WINNER_RECORD: usize = 6;
 
 // The winner. So many trials end at this place, of which `best` is the first of the lowest-scored.
-pub(crate) fn winner_of(r: &[u8], at: usize, count: usize, best: usize) -> Outcome
+pub(crate) fn winner_of(r: &[u8], at: usize, count: usize, best: usize) -> Result<usize, Refusal>
     requires { at ≤ length r.now }
     ensures { WinnerAt r.now at count best result }
 {
-    let due = record_at(r, at, WINNER);
-    let Outcome::Value(_) = due else {
-        return due;
-    };
+    record_at(r, at, Kind::Winner)?;
     let winner = word_at(r, at + HEADER);
     let ship = at + WINNER_RECORD;
     if count <= winner {
-        return refusal(16, at);
+        return Err(Reason::NoSuchTrial.at(at));
     }
-    let shipping = record_at(r, ship, SHIPPING);
-    let Outcome::Value(n) = shipping else {
-        return shipping;
-    };
+    let n = record_at(r, ship, Kind::Shipping)?;
     let end = ship + HEADER + n;
     if end < r.len() {
-        return refusal(20, end);
+        return Err(Reason::BytesAfterEnd.at(end));
     }
     if winner != best {
-        return refusal(17, at);
+        return Err(Reason::NotTheBest.at(at));
     }
-    Outcome::Value(winner)
+    Ok(winner)
 }

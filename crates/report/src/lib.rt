@@ -1,23 +1,24 @@
 // The report checker: whether the settings that a tuning report ships are those of its best trial.
 // Every answer is the verdict of specs/Report.antt, and demand 3 (specs/Claim.antt) holds of it.
+//   refusal  why a report is refused, and where
 //   record   the record that is due at a place, and the refusals 11 to 13
 //   head     kind 1: the trial count
 //   trials   kind 2: each trial played, and the first of the lowest-scored
 //   end      kinds 3 and 4: the winner, and nothing after the shipping packets
-//   same     equality of settings
 //   verdict  the yes or the no: `check`
-//   line     that answer as the checking program's line: `write_line`
+//   line     that answer as the checking program's line: `write_line`, and `write_refusal` with any number
 #![tactic(auto)]
 
 mod end;
 mod head;
 mod line;
 mod record;
-mod same;
+mod refusal;
 mod trials;
 mod verdict;
 
 pub use head::LONGEST;
-pub use line::{LINE, write_line};
-pub use record::{HEADER, Outcome, SHIPPING};
-pub use verdict::{Checked, check};
+pub use line::{LINE, write_line, write_refusal};
+pub use record::{HEADER, SHIPPING};
+pub use refusal::{Reason, Refusal};
+pub use verdict::{Accepted, check};

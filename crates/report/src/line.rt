@@ -4,11 +4,11 @@ ghost use Rattle.std.specs.Prelude.{◌≡◌, ◌++◌, ◌+◌, ◌≤◌, len
 ghost use Rattle.std.proofs.lemmas.List.Edits.{sets};
 ghost use Rattle.packet.specs.Writer.{written};
 ghost use Rattle.report.specs.Line.{decimal, sentence, line_of};
+ghost use Rattle.report.specs.Report.{Refused};
 ghost use Rattle.report.specs.Verdict.{verdict_in};
-ghost use Rattle.report.specs.Inner.{DigitsOf};
 
-use crate::record::Outcome;
-use crate::verdict::Checked;
+use crate::refusal::Refusal;
+use crate::verdict::Accepted;
 
 // Room for the longest line: at most 22 bytes of words, two numbers and the end.
 pub const LINE: usize = 64;
@@ -16,29 +16,24 @@ pub const LINE: usize = 64;
 // The most digits that a number has.
 const DIGITS: usize = 20;
 
-// The digits of a number, from a place of an array to its end.
-#[derive(Drop)]
-struct Digits {
-    bytes: [u8; DIGITS],
-    from: usize,
-}
-
-fn digits_of(n: usize) -> Digits
-    ensures { DigitsOf n result.bytes result.from }
+// The digits of a number, put at the end of an array. Not by `write!`: what that writes is promised
+// only where it answers `Ok`, and no contract says that it does.
+fn digits_of(n: usize, room: &mut [u8; DIGITS]) -> &[u8]
+    ensures { result.now ≡ decimal n }
 {
-    let mut bytes = [0u8; DIGITS];
-    let mut from: usize = DIGITS - 1;
+    let mut from = DIGITS - 1;
     let mut left = n;
-    while 10 <= left {
-        bytes[from] = b'0' + (left % 10) as u8;
-        left = left / 10;
+    while left >= 10 {
+        room[from] = b'0' + (left % 10) as u8;
+        left /= 10;
         from -= 1;
     }
-    bytes[from] = b'0' + left as u8;
-    Digits { bytes, from }
+    room[from] = b'0' + left as u8;
+    &room[from..]
 }
 
 // Puts text at a place; the place after it.
+// No struct of `out` and `at`: each method's contract would have to say that `out` is still the same.
 fn put(out: &mut [u8], at: usize, text: &[u8]) -> usize
     requires { at + length text.now ≤ length out.old }
     ensures { (result ≡ at + length text.now) × (out.new ≡ sets out.old at text.now) }
@@ -53,10 +48,8 @@ fn put_number(out: &mut [u8], at: usize, name: &[u8], n: usize) -> usize
     ensures { (result ≡ at + length (name.now ++ decimal n)) × (out.new ≡ sets out.old at (name.now ++ decimal n)) }
 {
     let after = put(out, at, name);
-    let digits = digits_of(n);
-    let bytes = digits.bytes;
-    let from = digits.from;
-    put(out, after, &bytes[from..])
+    let mut room = [0; DIGITS];
+    put(out, after, digits_of(n, &mut room))
 }
 
 // Two numbers, each after its name, and the end of the line.
@@ -69,17 +62,20 @@ fn put_sentence(out: &mut [u8], first: &[u8], m: usize, second: &[u8], n: usize)
     put(out, last, b"\n")
 }
 
-// Writes the line of an answer to the start of out, and says how long it is. The rest of out stays.
-pub fn write_line(out: &mut [u8; LINE], answer: Checked) -> usize
-    ensures { (result ≡ length (line_of (verdict_in answer.trial answer.score answer.settings))) × (out.new ≡ written (line_of (verdict_in answer.trial answer.score answer.settings)) out.old) }
+// Writes the line of a refusal with this number, whatever number it is.
+#[tactic(auto, unfolding(crate::specs::Line::line_of, crate::specs::Line::text_of))]
+pub fn write_refusal(out: &mut [u8; LINE], number: u8, place: usize) -> usize
+    ensures { (result ≡ length (line_of (Refused number place))) × (out.new ≡ written (line_of (Refused number place)) out.old) }
 {
-    let trial = answer.trial;
-    let score = answer.score;
-    match trial {
-        Outcome::Value(k) => put_sentence(out, b"accepted trial ", k, b" score ", score),
-        Outcome::Refused { number, place } => {
-            let why = number as usize;
-            put_sentence(out, b"refused ", why, b" at ", place)
-        }
+    put_sentence(out, b"refused ", usize::from(number), b" at ", place)
+}
+
+// Writes the line of an answer to the start of out, and says how long it is. The rest of out stays.
+pub fn write_line(out: &mut [u8; LINE], answer: Result<Accepted, Refusal>) -> usize
+    ensures { (result ≡ length (line_of (verdict_in answer))) × (out.new ≡ written (line_of (verdict_in answer)) out.old) }
+{
+    match answer {
+        Ok(yes) => put_sentence(out, b"accepted trial ", yes.trial, b" score ", yes.score),
+        Err(no) => write_refusal(out, no.reason.number(), no.place),
     }
 }

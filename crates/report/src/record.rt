@@ -2,36 +2,47 @@
 ghost use Rattle.std.specs.Prelude.{◌≡◌, ◌+◌, ◌<◌, ◌≤◌, length, take, drop};
 ghost use Rattle.packet.specs.Number.{value_of};
 ghost use Rattle.report.specs.Record.{sized};
-ghost use Rattle.report.specs.Inner.{RecordAt};
-ghost use Rattle.report.specs.declared.record.Outcome.TheVariants as outcome;
+ghost use Rattle.report.specs.Inner.{kind_number, RecordAt};
 
-// The kinds.
-pub(crate) const HEAD: usize = 1;
+use crate::refusal::{Reason, Refusal};
 
-pub(crate) const TRIAL: usize = 2;
+// The kinds of record, by their numbers.
+#[derive(Clone, Copy)]
+pub(crate) enum Kind {
+    Head = 1,
+    Trial = 2,
+    Winner = 3,
+    Shipping = 4,
+}
 
-pub(crate) const WINNER: usize = 3;
-
-pub const SHIPPING: usize = 4;
+// The number of kind 4, whose body is the shipping packets.
+pub const SHIPPING: usize = Kind::Shipping as usize;
 
 // The bytes in front of a body.
 pub const HEADER: usize = 4;
 
-// A value that was read, or the refusal that ends the reading.
-#[derive(Clone, Copy)]
-pub enum Outcome {
-    Value(usize),
-    // Document 01's number of the refusal, and its place.
-    Refused { number: u8, place: usize },
+impl Kind {
+    fn number(self) -> usize
+        ensures { result ≡ kind_number self }
+    {
+        self as usize
+    }
+
+    // Whether a body of this kind may have n bytes.
+    fn has_size(self, n: usize) -> bool
+        ensures { result ≡ sized (kind_number self) n }
+    {
+        match self {
+            Kind::Head => n == 4,
+            Kind::Trial => 4 <= n,
+            Kind::Winner => n == 2,
+            Kind::Shipping => true,
+        }
+    }
 }
 
-pub(crate) fn refusal(number: u8, place: usize) -> Outcome
-    ensures { result ≡ outcome.Refused number place }
-{
-    Outcome::Refused { number, place }
-}
-
-// The number in two bytes.
+// The number in two bytes. It and the next stand here and not in `packet`, where a public function at any
+// place of a slice would have to refuse.
 pub(crate) fn word_at(r: &[u8], at: usize) -> usize
     requires { at + 2 ≤ length r.now }
     ensures { (result ≡ value_of (take 2 (drop at r.now))) × (result < 65536) }
@@ -49,42 +60,26 @@ pub(crate) fn long_at(r: &[u8], at: usize) -> usize
     low + 65536 * high
 }
 
-// Whether a body of n bytes is one of this kind.
-fn has_size(kind: usize, n: usize) -> bool
-    ensures { result ≡ sized kind n }
-{
-    if kind == HEAD {
-        return n == 4;
-    }
-    if kind == TRIAL {
-        return 4 <= n;
-    }
-    if kind == WINNER {
-        return n == 2;
-    }
-    true
-}
-
-// The record of this kind that is due at a place: the length of its body.
-pub(crate) fn record_at(r: &[u8], at: usize, kind: usize) -> Outcome
+// The record of this kind that is due at a place: the length of its body. The place comes beside the report,
+// since a refusal tells it.
+pub(crate) fn record_at(r: &[u8], at: usize, kind: Kind) -> Result<usize, Refusal>
     requires { at ≤ length r.now }
-    ensures { RecordAt r.now kind at result }
+    ensures { RecordAt r.now (kind_number kind) at result }
 {
-    let left = r.len() - at;
-    if left < HEADER {
-        return refusal(11, at);
+    let Some(header) = r.get(at..at + HEADER) else {
+        return Err(Reason::RecordCutShort.at(at));
+    };
+    let n = word_at(header, 0);
+    let k = word_at(header, 2);
+    let start = at + HEADER;
+    let Some(_) = r.get(start..start + n) else {
+        return Err(Reason::RecordCutShort.at(at));
+    };
+    if k != kind.number() {
+        return Err(Reason::OtherKindDue.at(at));
     }
-    let n = word_at(r, at);
-    let k = word_at(r, at + 2);
-    let size = HEADER + n;
-    if left < size {
-        return refusal(11, at);
+    if !kind.has_size(n) {
+        return Err(Reason::WrongBodyLength.at(at));
     }
-    if k != kind {
-        return refusal(12, at);
-    }
-    if !has_size(kind, n) {
-        return refusal(13, at);
-    }
-    Outcome::Value(n)
+    Ok(n)
 }

@@ -2,7 +2,8 @@
 ghost use Rattle.std.specs.Prelude.{◌<◌, ◌≤◌, length};
 ghost use Rattle.report.specs.Inner.{BestAt};
 
-use crate::record::{HEADER, Outcome, TRIAL, long_at, record_at};
+use crate::record::{HEADER, Kind, long_at, record_at};
+use crate::refusal::Refusal;
 use command::{Settings, play};
 
 // Where the trials begin: after kind 1.
@@ -11,54 +12,38 @@ const FIRST: usize = 8;
 // Where a trial's packets begin in its record: after the header and the score.
 const PACKETS: usize = 8;
 
-// The first of the lowest-scored trials, with its score and the settings that it ended with, and the
-// place after all of them. Where a trial that is due is not there, none is the best.
-#[derive(Drop)]
+// The first of the lowest-scored trials, with its score and the settings that it ended with.
+#[derive(Clone, Copy)]
 pub(crate) struct Best {
-    pub next: Outcome,
     pub trial: usize,
     pub score: usize,
     pub settings: Settings,
 }
 
 // So many trials; trial 0 starts from factory values, each later trial from where the last ended.
-pub(crate) fn best_of(r: &[u8], count: usize) -> Best
+// The best of them, and the place after them all. The place goes on by hand: how long a record is stands in it.
+pub(crate) fn best_of(r: &[u8], count: usize) -> Result<(Best, usize), Refusal>
     requires { (8 ≤ length r.now) × (0 < count) }
-    ensures { BestAt r.now count result.next result.trial result.score result.settings }
+    ensures { BestAt r.now count result }
 {
-    let start = Settings::factory();
-    let mut last = start;
-    let mut best = start;
-    let mut at: usize = FIRST;
-    let mut trial: usize = 0;
-    let mut lowest: usize = 0;
-    let mut i: usize = 0;
-    while i < count {
-        let due = record_at(r, at, TRIAL);
-        let Outcome::Value(n) = due else {
-            return Best {
-                next: due,
-                trial: 0,
-                score: 0,
-                settings: start,
-            };
-        };
+    let mut at = FIRST;
+    let mut last = Settings::factory();
+    let mut best: Option<Best> = None;
+    for i in 0..count {
+        let n = record_at(r, at, Kind::Trial)?;
         let next = at + HEADER + n;
         let score = long_at(r, at + HEADER);
         let ended = play(last, &r[at + PACKETS..next]).settings;
-        if (i == 0) | (score < lowest) {
-            trial = i;
-            lowest = score;
-            best = ended;
+        if best.is_none_or(|b| score < b.score) {
+            best = Some(Best {
+                trial: i,
+                score,
+                settings: ended,
+            });
         }
         last = ended;
         at = next;
-        i += 1;
     }
-    Best {
-        next: Outcome::Value(at),
-        trial,
-        score: lowest,
-        settings: best,
-    }
+    // There is a best: count is not 0.
+    Ok((best.unwrap(), at))
 }

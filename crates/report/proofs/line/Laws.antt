@@ -1,79 +1,57 @@
 -- Numbers in decimal, digit by digit, and runs of stores that make a line.
-use Prim.Native.Nat.{ℕ, zero, suc, ◌+◌, ◌-◌, ◌^◌, ◌/◌, ◌%◌, ◌≤◌, ◌<◌}
+use Prim.Native.Nat.{ℕ, suc, ◌+◌, ◌-◌, ◌^◌, ◌/◌, ◌%◌, ◌≤◌, ◌<◌}
 use mathlib.Core.Path.{◌≡◌, ap, sym, ◌∙◌}
 use mathlib.Core.List.{List, [], ◌∷◌, ◌++◌, append_assoc}
 use native.Mathlib.Omega.{arith}
-use native.Mathlib.Numerals.{add-one}
 use borrow.Author.Tests.{lt-ltb, le-ltb}
-use lib.ListN.{length, take, drop, set, length-append, length-drop}
-use lib.Seq.{sets, set_split, drop_at, length-take-le}
+use lib.ListN.{length, drop, set, length-append, length-drop}
+use lib.Seq.{sets}
+use Rattle.std.specs.Fmt.{decimal as written_decimal}
+use Rattle.std.proofs.lemmas.List.{drop-set}
+use Rattle.std.proofs.lemmas.Fmt.{decimal_from_appends, decimal_digit, decimal_step, decimal_nonempty, length-decimal-le, length-decimal-le_succ}
 use Rattle.packet.specs.Writer.{written}
-use Rattle.packet.proofs.Cases.{lt_cases}
 use Rattle.packet.proofs.BytesLaws.{sets_append, sets_front}
 use Rattle.report.specs.Line.{text_of, digit, digits, decimal, sentence}
 
--- Fuel that is enough does not show.
-digits_fuel : (m k n : ℕ) → n < m → n < k → digits m n ≡ digits k n
-unfolding digits
-digits_fuel (suc m) (suc k) n a b =
-    lt_cases n 10 (λ h. rw (lt-ltb n 10 h))
-    (λ h. rw (le-ltb n 10 h) (ap (λ (x : List ℕ). x ++ (digit (n % 10) ∷ [])) (digits_fuel m k (n / 10) (omega arith) (omega arith))))
-digits_fuel zero k n a b = absurd (omega arith)
-digits_fuel (suc m) zero n a b = absurd (omega arith)
-
-pub decimal_one : (n : ℕ) → n < 10 → decimal n ≡ digit n ∷ []
+-- The decimal of the rule is what the library's `{}` writes.
+decimal_is : (n : ℕ) → n < 2 ^ 64 → decimal n ≡ written_decimal n
 unfolding decimal digits
-decimal_one n h = rw (lt-ltb n 10 h)
+decimal_is n h =
+    decimal_from_appends digits
+    (record { one = λ k n l. rw (lt-ltb n 10 l); more = λ k n l. rw (le-ltb n 10 l) }) (suc n) n h (omega (arith, length-decimal-le_succ n h))
 
-pub decimal_more : (n : ℕ) → 10 ≤ n → decimal n ≡ decimal (n / 10) ++ (digit (n % 10) ∷ [])
-unfolding decimal digits
-decimal_more n h =
-    rw (le-ltb n 10 h) (ap (λ (x : List ℕ). x ++ (digit (n % 10) ∷ [])) (digits_fuel n (suc (n / 10)) (n / 10) (omega arith) (omega arith)))
+decimal_one : (n : ℕ) → n < 10 → decimal n ≡ digit n ∷ []
+decimal_one n h = decimal_is n (omega arith) ∙ decimal_digit n h
 
--- A number below 10 ^ k has at most k digits, and one that is not below 10 has two or more.
-digits_few : (k m n : ℕ) → n < 10 ^ suc k → length (digits m n) ≤ suc k
-unfolding digits
-digits_few k zero n h = omega arith
-digits_few zero (suc m) n h = rw (lt-ltb n 10 h) (omega arith)
-digits_few (suc k) (suc m) n h =
-    lt_cases n 10 (λ l. rw (lt-ltb n 10 l) (omega arith))
-    (λ l. rw (le-ltb n 10 l, length-append (digits m (n / 10)) (digit (n % 10) ∷ [])) (omega (arith, digits_few k m (n / 10) (omega arith))))
+decimal_more : (n : ℕ) → n < 2 ^ 64 → 10 ≤ n → decimal n ≡ decimal (n / 10) ++ (digit (n % 10) ∷ [])
+decimal_more n f h =
+    rw (decimal_is n f, decimal_is (n / 10) (omega arith)) (decimal_step n h f)
 
 pub decimal_few : (n : ℕ) → n < 2 ^ 64 → length (decimal n) ≤ 20
-unfolding decimal
-decimal_few n h = digits_few 19 (suc n) n (omega arith)
+decimal_few n h = rw (decimal_is n h) (length-decimal-le 20 n (omega arith) (omega arith) h)
 
-decimal_some : (n : ℕ) → 1 ≤ length (decimal n)
-decimal_some n =
-    lt_cases n 10 (λ h. rw (decimal_one n h) (omega arith))
-    (λ h. rw (decimal_more n h, length-append (decimal (n / 10)) (digit (n % 10) ∷ [])) (omega arith))
+decimal_two : (n : ℕ) → n < 2 ^ 64 → 10 ≤ n → 2 ≤ length (decimal n)
+decimal_two n f h =
+    rw (decimal_more n f h, length-append (decimal (n / 10)) (digit (n % 10) ∷ []), decimal_is (n / 10) (omega arith))
+    (omega (arith, decimal_nonempty (n / 10) (omega arith)))
 
-pub decimal_two : (n : ℕ) → 10 ≤ n → 2 ≤ length (decimal n)
-decimal_two n h =
-    rw (decimal_more n h, length-append (decimal (n / 10)) (digit (n % 10) ∷ [])) (omega (arith, decimal_some (n / 10)))
-
--- Digits that stand in an array from its end on: one more, in front of them.
-in_front : (bytes : List ℕ) (i x : ℕ) → i < length bytes → drop i (set bytes i x) ≡ x ∷ drop (i + 1) bytes
-in_front bytes i x h =
-    ap (drop i) (set_split bytes i x h) ∙ drop_at (take i bytes) (x ∷ drop (suc i) bytes) i (length-take-le i bytes (omega arith)) ∙ rw (add-one i)
-
--- so many digits of n are those of what is left, and those that stand after a place
-module _ (n left at : ℕ) (bytes : List ℕ) (e : decimal n ≡ decimal left ++ drop (at + 1) bytes) (h : at < length bytes) where
+-- Digits that stand in an array from its end on: so many digits of n are those of what is left, and those that stand after a place
+module _ (n left at : ℕ) (bytes : List ℕ) (f : left < 2 ^ 64) (e : decimal n ≡ decimal left ++ drop (at + 1) bytes) (h : at < length bytes) where
   -- there is room for one more
   pub digits_room : length (decimal n) ≤ length bytes → 10 ≤ left → 1 ≤ at
-  digits_room f l =
-      omega (arith, ap length e, length-append (decimal left) (drop (at + 1) bytes), length-drop (at + 1) bytes, decimal_two left l)
+  digits_room few l =
+      omega (arith, few, ap length e, length-append (decimal left) (drop (at + 1) bytes), length-drop (at + 1) bytes, decimal_two left f l)
 
   pub digits_more : 10 ≤ left → 1 ≤ at → decimal n ≡ decimal (left / 10) ++ drop (at - 1 + 1) (set bytes at (digit (left % 10)))
   digits_more l o =
       let k : at - 1 + 1 ≡ at = omega arith in
       e
-      ∙ ap (λ (x : List ℕ). x ++ drop (at + 1) bytes) (decimal_more left l)
+      ∙ ap (λ (x : List ℕ). x ++ drop (at + 1) bytes) (decimal_more left f l)
       ∙ append_assoc (decimal (left / 10)) (digit (left % 10) ∷ []) (drop (at + 1) bytes)
-      ∙ rw (k, in_front bytes at (digit (left % 10)) h)
+      ∙ rw (k, drop-set bytes at (digit (left % 10)) h)
 
   pub digits_last : left < 10 → drop at (set bytes at (digit left)) ≡ decimal n
-  digits_last l = in_front bytes at (digit left) h ∙ sym (e ∙ rw (decimal_one left l))
+  digits_last l = drop-set bytes at (digit left) h ∙ sym (e ∙ rw (decimal_one left l))
 
 -- Text put at a place, and more after it: one run of stores.
 pub put_two : (out name text : List ℕ) (at : ℕ) {after end : ℕ} {one two given : List ℕ} → (after ≡ at + length name) × (one ≡ sets out at name) → given ≡ text

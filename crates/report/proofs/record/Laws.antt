@@ -1,20 +1,19 @@
 -- Readings step by step, the four ends of a record, and what the code reads of one at its place.
-use Prim.Native.Nat.{ℕ, zero, suc, ◌+◌, ◌*◌, ◌<◌, ◌≤◌}
-use mathlib.Core.Path.{◌≡◌, ap, sym, ◌∙◌, subst}
+use Prim.Native.Nat.{ℕ, suc, ◌+◌, ◌*◌, ◌<◌, ◌≤◌}
+use mathlib.Core.Path.{◌≡◌, ap, sym, ◌∙◌}
 use mathlib.Core.Bool.{Bool, true, false, and-false}
-use mathlib.Core.List.{List, [], ◌∷◌, ◌++◌}
-use mathlib.Core.Option.{Option, none, some}
+use mathlib.Core.List.{List}
+use Rattle.std.specs.Prelude.{Option, None, Some, Result, Ok, Err}
+use Rattle.std.specs.Result.{IsErrAnd}
 use native.Mathlib.Omega.{arith}
-use native.Mathlib.Nat.{suc-add, zero-add}
 use lib.Dec.{leb}
 use borrow.Author.Tests.{le-leb, lt-leb, eq-eqb, ne_eqb, eqb-true, leb-true}
 use lib.ListN.{length, take, drop, length-drop}
-use lib.Seq.{drop-drop, drop-cons, take-nil, take_at, drop_at, length-take-le}
+use lib.Seq.{drop-drop, drop-cons, length-take-le}
+use Rattle.std.proofs.lemmas.List.{take-take, drop-take}
 use Rattle.packet.specs.Number.{value_of}
 use Rattle.report.specs.Record.{Out, Bad, Good, ◌>>=◌, ◌>>◌, need, without, sized, reading}
-use Rattle.report.specs.Inner.{RecordIs, RecordAt}
-use Rattle.report.specs.declared.record.Outcome.{Outcome}
-use Rattle.report.specs.declared.record.Outcome.TheVariants.{Value, Refused}
+use Rattle.report.specs.Inner.{RecordIs}
 
 -- One step of a reading: it goes on, or it stops.
 pub run : {A B : Type 0} (m : Out A) (f : A → Out B) {a : A} {o : Out B} → m ≡ Good a → f a ≡ o → (m >>= f) ≡ o
@@ -33,13 +32,18 @@ pub fail : {B : Type 0} (t : Bool) (n p : ℕ) (m : Out B) → t ≡ false → (
 unfolding ◌>>=◌ need
 fail t n p m e = rw e
 
-pub pass_none : {B : Type 0} (o : Option ℕ) (n p : ℕ) (m : Out B) {x : Out B} → o ≡ none → m ≡ x → (without o n p >> m) ≡ x
+pub pass_none : {B : Type 0} (o : Option ℕ) (n p : ℕ) (m : Out B) {x : Out B} → o ≡ None → m ≡ x → (without o n p >> m) ≡ x
 unfolding ◌>>=◌ without
 pass_none o n p m {x} e h = rw e h
 
-pub fail_some : {B : Type 0} (o : Option ℕ) (n p : ℕ) (m : Out B) {k : ℕ} → o ≡ some k → (without o n p >> m) ≡ Bad n (p + k)
+pub fail_some : {B : Type 0} (o : Option ℕ) (n p : ℕ) (m : Out B) {k : ℕ} → o ≡ Some k → (without o n p >> m) ≡ Bad n (p + k)
 unfolding ◌>>=◌ without
 fail_some o n p m {k} e = rw e
+
+-- what `?` hands on is the refusal that came
+pub handed_on : {A E : Type 0} (r : Result A E) (e : E) → IsErrAnd r (λ y. y ≡ e) → r ≡ Err e
+handed_on (Ok a) e h = absurd h
+handed_on (Err y) e h = ap Err h
 
 -- The four ends: 11, 12, 13, and the record.
 module _ (kind at : ℕ) (b : List ℕ) where
@@ -62,27 +66,7 @@ module _ (kind at : ℕ) (b : List ℕ) where
       unfolding reading need ◌>>=◌
       whole_record s = rw (le-leb 4 (length b) (omega arith), le-leb (4 + value_of (take 2 b)) (length b) l, eq-eqb (value_of (take 2 (drop 2 b))) kind k, s)
 
--- Parts of a report.
-pub take_parts : (n m : ℕ) (l : List ℕ) → take (n + m) l ≡ take n l ++ take m (drop n l)
-take_parts zero m l = ap (λ (k : ℕ). take k l) (zero-add m)
-take_parts (suc n) m [] = take-nil (suc n + m) ∙ sym (take-nil m)
-take_parts (suc n) m (x ∷ l) = ap (λ (k : ℕ). take k (x ∷ l)) (suc-add n m) ∙ ap (λ (t : List ℕ). x ∷ t) (take_parts n m l)
-
--- a part has as many bytes as were asked for; its front, and what follows it
-module _ (n at : ℕ) (r : List ℕ) (h : at + n ≤ length r) where
-  pub part_length : length (take n (drop at r)) ≡ n
-  part_length = length-take-le n (drop at r) (omega (arith, length-drop at r))
-
-  pub part_front : (m : ℕ) → take n (take (n + m) (drop at r)) ≡ take n (drop at r)
-  part_front m = ap (take n) (take_parts n m (drop at r)) ∙ take_at (take n (drop at r)) (take m (drop n (drop at r))) n part_length
-
-  pub part_back : (m : ℕ) → drop n (take (n + m) (drop at r)) ≡ take m (drop (at + n) r)
-  part_back m =
-      ap (drop n) (take_parts n m (drop at r))
-      ∙ drop_at (take n (drop at r)) (take m (drop n (drop at r))) n part_length
-      ∙ ap (take m) (drop-drop n at r)
-
--- the number in four bytes
+-- The number in four bytes.
 pub value_four : (r : List ℕ) (at : ℕ) → at + 4 ≤ length r
     → value_of (take 4 (drop at r)) ≡ value_of (take 2 (drop at r)) + 65536 * value_of (take 2 (drop (at + 2) r))
 unfolding value_of
@@ -96,17 +80,14 @@ value_four r at h =
       drop-cons r (suc (suc (suc at))) 0 (omega arith),
     ) (omega arith)
 
--- What the code read at a place: each end of it.
+-- What the code reads at a place: each end of it.
 module _ (r : List ℕ) (kind at : ℕ) (fits : at ≤ length r) where
-  told : {o : Outcome} {n : ℕ} → o ≡ Refused n at → reading kind at (drop at r) ≡ Bad n at → RecordAt r kind at o
-  told e h = subst (RecordAt r kind at) (sym e) h
-
-  pub told_header : {o : Outcome} → o ≡ Refused 11 at → length r < at + 4 → RecordAt r kind at o
-  told_header e h = told e (short_body kind at (drop at r) (omega (arith, length-drop at r)))
+  pub no_header : length r < at + 4 → reading kind at (drop at r) ≡ Bad 11 at
+  no_header h = short_body kind at (drop at r) (omega (arith, length-drop at r))
 
   module _ {n k : ℕ} (is : n ≡ value_of (take 2 (drop at r))) (of : k ≡ value_of (take 2 (drop (at + 2) r))) where
-    pub told_body : {o : Outcome} → o ≡ Refused 11 at → length r < at + 4 + n → RecordAt r kind at o
-    told_body e h = told e (short_body kind at (drop at r) (omega (arith, length-drop at r)))
+    pub no_body : length r < at + 4 + n → reading kind at (drop at r) ≡ Bad 11 at
+    no_body h = short_body kind at (drop at r) (omega (arith, length-drop at r))
 
     kind_is : value_of (take 2 (drop 2 (drop at r))) ≡ k
     kind_is = ap (λ (x : List ℕ). value_of (take 2 x)) (drop-drop 2 at r) ∙ sym of
@@ -115,15 +96,15 @@ module _ (r : List ℕ) (kind at : ℕ) (fits : at ≤ length r) where
       whole : 4 + value_of (take 2 (drop at r)) ≤ length (drop at r)
       whole = omega (arith, length-drop at r)
 
-      pub told_kind : {o : Outcome} → o ≡ Refused 12 at → (k ≡ kind → ⊥) → RecordAt r kind at o
-      told_kind e h = told e (other_kind kind at (drop at r) whole (λ x. h (sym kind_is ∙ x)))
+      pub not_due : (k ≡ kind → ⊥) → reading kind at (drop at r) ≡ Bad 12 at
+      not_due h = other_kind kind at (drop at r) whole (λ x. h (sym kind_is ∙ x))
 
       module _ (h : k ≡ kind) where
-        pub told_size : {o : Outcome} → o ≡ Refused 13 at → sized kind n ≡ false → RecordAt r kind at o
-        told_size e s = told e (wrong_size kind at (drop at r) whole (kind_is ∙ h) (ap (sized kind) (sym is) ∙ s))
+        pub not_sized : sized kind n ≡ false → reading kind at (drop at r) ≡ Bad 13 at
+        not_sized s = wrong_size kind at (drop at r) whole (kind_is ∙ h) (ap (sized kind) (sym is) ∙ s)
 
-        pub told_record : sized kind n ≡ true → RecordIs r kind at n
-        told_record s =
+        pub record_is : sized kind n ≡ true → RecordIs r kind at n
+        record_is s =
             let far : at + (4 + n) ≡ at + 4 + n = omega arith in
             record {
               reads =
@@ -132,13 +113,6 @@ module _ (r : List ℕ) (kind at : ℕ) (fits : at ≤ length r) where
               within = l;
               right = s;
             }
-
--- The record that was found, or the refusal.
-pub found : {r : List ℕ} {kind at n : ℕ} {o : Outcome} → o ≡ Value n → RecordAt r kind at o → RecordIs r kind at n
-found {r} {kind} {at} e h = subst (RecordAt r kind at) e h
-
-pub missed : (r : List ℕ) (kind at : ℕ) {n p : ℕ} {o : Outcome} → o ≡ Refused n p → RecordAt r kind at o → reading kind at (drop at r) ≡ Bad n p
-missed r kind at e h = subst (RecordAt r kind at) e h
 
 -- its size
 module _ {r : List ℕ} {at n : ℕ} where
@@ -154,10 +128,11 @@ module _ {r : List ℕ} {at n : ℕ} where
 -- its body, of which the front is a number and the back is what follows
 module _ {r : List ℕ} {kind at n : ℕ} (f : RecordIs r kind at n) where
   pub body_long : length (take n (drop (at + 4) r)) ≡ n
-  body_long = part_length n (at + 4) r f.within
+  body_long = length-take-le n (drop (at + 4) r) (omega (arith, length-drop (at + 4) r, f.within))
 
   pub body_parts : (w m : ℕ) → n ≡ w + m
       → (take w (take n (drop (at + 4) r)) ≡ take w (drop (at + 4) r)) × (drop w (take n (drop (at + 4) r)) ≡ take m (drop (at + 4 + w) r))
-  body_parts w m e =
-      let l : at + 4 + w ≤ length r = omega (arith, f.within) in
-      (rw e (part_front w (at + 4) r l m), rw e (part_back w (at + 4) r l m))
+  body_parts w m e = (
+    rw e (take-take w (w + m) (drop (at + 4) r) (omega arith)),
+    rw e (drop-take w m (drop (at + 4) r) ∙ ap (take m) (drop-drop w (at + 4) r)),
+  )

@@ -3,52 +3,26 @@ use Prim.Native.Nat.{ℕ, ◌+◌, ◌-◌, ◌<◌}
 use mathlib.Core.Path.{◌≡◌, refl, ap, ap₂, sym, ◌∙◌}
 use mathlib.Core.Bool.{Bool, true, false}
 use mathlib.Core.List.{List}
-use mathlib.Core.Option.{none, some}
+use Rattle.std.specs.Prelude.{None, Some}
 use native.Mathlib.Omega.{arith}
 use lib.Dec.{eqb, ltb}
 use borrow.Author.Tests.{eqb-false, ltb-true}
 use lib.ListN.{length, take, drop, length-drop}
 use lib.Seq.{take_all}
-use Rattle.packet.specs.Number.{value_of, Bytes}
+use Rattle.packet.specs.Number.{value_of}
 use Rattle.packet.proofs.Cases.{bool_cases}
 use Rattle.command.specs.Settings.{factory}
 use Rattle.command.specs.declared.settings.Settings.{Settings}
 use Rattle.command.specs.Player.{play, is_nil, offence}
 use Rattle.report.specs.Record.{Out, Bad, Good, ◌>>=◌, ◌>>◌, need, reading}
-use Rattle.report.specs.Report.{Trial, Report, read_trials, read_head, read_end, read_report, first_lowest, same_settings, check_report, Verdict, Accepted, verdict_of, verdict, Refused as RefusedWith}
-use Rattle.report.specs.Claim.{Demand3}
+use Rattle.report.specs.Report.{Trial, Report, read_trials, read_head, read_end, read_report, first_lowest, same_settings, check_report, Accepted, verdict_of, Refused, verdict}
 use Rattle.report.specs.Inner.{HeadIs, BestIs, named_at, WinnerIs}
-use Rattle.report.specs.Verdict.{verdict_in, score_in, settings_in}
-use Rattle.report.specs.declared.record.Outcome.{Outcome}
-use Rattle.report.specs.declared.record.Outcome.TheVariants.{Value, Refused}
 use Rattle.report.proofs.record.Laws.{pass, pass_none, fail, fail_some}
 use Rattle.report.proofs.trials.Laws.{lowest_true, lowest_back, lowest_one}
-use Rattle.report.proofs.Demand3.{demand3_of}
-
--- What is promised of an answer.
-abbrev pub Promised : List ℕ → Outcome → ℕ → Settings → Type 0
-Promised r t score s = Demand3 r (verdict_in t score s) × (score ≡ score_in (verdict r)) × (s ≡ settings_in (verdict r))
-
-module _ (r : List ℕ) (b : Bytes r) where
-  promised_by : (v : Verdict) (t : Outcome) (score : ℕ) (s : Settings) → verdict r ≡ v → verdict_in t score s ≡ v → score ≡ score_in v → s ≡ settings_in v
-      → Promised r t score s
-  promised_by v t score s e q n f = (demand3_of r (verdict_in t score s) b (q ∙ sym e), n ∙ ap score_in (sym e), f ∙ ap settings_in (sym e))
-
-  pub promised_no : {n p score : ℕ} {s : Settings} {t why : Outcome} → verdict r ≡ RefusedWith n p → (t ≡ why) × (score ≡ 0) × (s ≡ factory) → why ≡ Refused n p
-      → Promised r t score s
-  promised_no {n} {p} {score} {s} {t} h c e = promised_by (RefusedWith n p) t score s h (ap (λ (x : Outcome). verdict_in x score s) (c.0 ∙ e)) c.1 c.2
-
-  pub promised_yes : {k score : ℕ} {s : Settings} {t : Outcome} → verdict r ≡ Accepted k score s → t ≡ Value k → Promised r t score s
-  promised_yes {k} {score} {s} {t} h e = promised_by (Accepted k score s) t score s h (ap (λ (x : Outcome). verdict_in x score s) e) refl refl
 
 -- A reading that gives a value, step by step.
-is_bad : {A : Type 0} → Out A → ℕ
-is_bad (Bad n p) = 1
-is_bad (Good a) = 0
-
 pub bad_good : {A : Type 0} {n p : ℕ} {a : A} → Bad n p ≡ Good a → ⊥
-unfolding is_bad
-bad_good e = let z : ◌≡◌ {A = ℕ} 1 0 = ap is_bad e in omega arith
+bad_good e = cc
 
 then_good : {A B : Type 0} (m : Out A) (f : A → Out B) {b : B} → (m >>= f) ≡ Good b → (a : A) × (m ≡ Good a) × (f a ≡ Good b)
 unfolding ◌>>=◌
@@ -80,11 +54,11 @@ of_end n at ts left p e =
     good_same q = cc
 
 -- Refused before the end.
-pub head_no : (r : List ℕ) {n p : ℕ} → read_head r ≡ Bad n p → verdict r ≡ RefusedWith n p
+pub head_no : (r : List ℕ) {n p : ℕ} → read_head r ≡ Bad n p → verdict r ≡ Refused n p
 unfolding verdict verdict_of read_report ◌>>=◌
 head_no r e = rw e
 
-pub trials_no : (r : List ℕ) {m n p : ℕ} → HeadIs r m → read_trials m 8 (drop 8 r) ≡ Bad n p → verdict r ≡ RefusedWith n p
+pub trials_no : (r : List ℕ) {m n p : ℕ} → HeadIs r m → read_trials m 8 (drop 8 r) ≡ Bad n p → verdict r ≡ Refused n p
 unfolding verdict verdict_of read_report ◌>>=◌
 trials_no r h f = rw (h.reads, f)
 
@@ -111,7 +85,7 @@ module _ (r : List ℕ) {m at j score : ℕ} {e : Settings} (h : HeadIs r m) (b 
       (λ y. absurd (n (lowest_one ts k j (omega (arith, b.count)) b.best.named (lowest_true ts k (omega (arith, b.count)) y) b.best.first))) (λ y. y)
 
   refused_end : (o : Out Report) → end ≡ o → {n x : ℕ} → (o >>= λ p. need (eqb p.winner j) 17 at >> Good p) ≡ Bad n x
-      → verdict_of factory (o >>= check_report factory) ≡ RefusedWith n x
+      → verdict_of factory (o >>= check_report factory) ≡ Refused n x
   unfolding verdict_of check_report ◌>>=◌
   refused_end (Bad a c) f g = cc
   refused_end (Good p) f {n} {x} g =
@@ -121,7 +95,7 @@ module _ (r : List ℕ) {m at j score : ℕ} {e : Settings} (h : HeadIs r m) (b 
       let stops : check_report factory p ≡ Bad n x = fail _ 17 p.place _ no ∙ rw of.place (sym (fail _ 17 at (Good p) y) ∙ g) in
       ap (verdict_of factory) stops
 
-  pub winner_no : {n x : ℕ} → ((us : List Trial) → named_at r at m j us ≡ Bad n x) → verdict r ≡ RefusedWith n x
+  pub winner_no : {n x : ℕ} → ((us : List Trial) → named_at r at m j us ≡ Bad n x) → verdict r ≡ Refused n x
   unfolding named_at
   winner_no g = verdict_end ∙ refused_end end refl (g ts)
 
@@ -137,12 +111,12 @@ module _ (r : List ℕ) {m at j score : ℕ} {e : Settings} (h : HeadIs r m) (b 
     lowest : first_lowest ts j ≡ true
     lowest = lowest_back ts j b.best.first
 
-    pub refused_18 : {n : ℕ} → offence factory (ship_in r at) ≡ some n → verdict r ≡ RefusedWith 18 (at + 10 + n)
+    pub refused_18 : {n : ℕ} → offence factory (ship_in r at) ≡ Some n → verdict r ≡ Refused 18 (at + 10 + n)
     unfolding verdict_of check_report
     refused_18 x = verdict_read ∙ ap (verdict_of factory) (pass _ 17 at _ lowest (fail_some _ 18 (at + 10) _ x))
 
-    module _ (yes : offence factory (ship_in r at) ≡ none) where
-      pub refused_19 : same_settings (play factory (ship_in r at)).settings e ≡ false → verdict r ≡ RefusedWith 19 (at + 6)
+    module _ (yes : offence factory (ship_in r at) ≡ None) where
+      pub refused_19 : same_settings (play factory (ship_in r at)).settings e ≡ false → verdict r ≡ Refused 19 (at + 6)
       unfolding verdict_of check_report
       refused_19 x =
           verdict_read

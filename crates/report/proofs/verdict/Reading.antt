@@ -3,7 +3,7 @@ use Prim.Native.Nat.{ℕ, zero, suc, ◌+◌, ◌^◌, ◌<◌, ◌≤◌}
 use mathlib.Core.Path.{◌≡◌, refl, ap, ap₂, sym, ◌∙◌, subst}
 use mathlib.Core.Bool.{Bool, true, false, not, ◌&&◌}
 use mathlib.Core.List.{List, [], ◌∷◌, ◌++◌, append_assoc, append-nil}
-use mathlib.Core.Option.{Option, none, some}
+use Rattle.std.specs.Prelude.{Option, None, Some}
 use native.Mathlib.Omega.{arith}
 use lib.Dec.{leb, eqb}
 use borrow.Author.Tests.{leb-true, leb-false, le-leb, eqb-true, eqb-false, ltb-true, ltb-false, not-true}
@@ -39,10 +39,10 @@ module _ {B : Type 0} {S : ℕ → ℕ → Type 0} {Q : B → Type 0} {m : Out B
   needs true g k = k refl
   needs false g k = bad (g refl)
 
-  pub needs_none : (o : Option ℕ) → ((k : ℕ) → o ≡ some k → S n (p + k)) → (o ≡ none → Ends S Q m) → Ends S Q (without o n p >> m)
+  pub needs_none : (o : Option ℕ) → ((k : ℕ) → o ≡ Some k → S n (p + k)) → (o ≡ None → Ends S Q m) → Ends S Q (without o n p >> m)
   unfolding ◌>>=◌ without
-  needs_none none g h = h refl
-  needs_none (some k) g h = bad (g k refl)
+  needs_none None g h = h refl
+  needs_none (Some k) g h = bad (g k refl)
 
   pub needs_equal : (x y : ℕ) → ((x ≡ y → ⊥) → S n p) → (x ≡ y → Ends S Q m) → Ends S Q (need (eqb x y) n p >> m)
   needs_equal x y g k = needs (eqb x y) (λ e. g (eqb-false x y e)) (λ e. k (eqb-true x y e))
@@ -75,8 +75,7 @@ short_false m n e =
     bool_cases (leb (4 + m) n)
     (λ t.
     let k : 4 ≤ n = omega (arith, leb-true (4 + m) n t) in
-    let z : ◌≡◌ {A = ℕ} 0 1 = cc (and_both (leb 4 n) (leb (4 + m) n) (le-leb 4 n k) t) in
-    absurd (omega arith))
+    absurd (cc (and_both (leb 4 n) (leb (4 + m) n) (le-leb 4 n k) t)))
     (λ f. leb-false (4 + m) n f)
 
 -- a whole record is the record of its kind and body
@@ -124,7 +123,7 @@ due_wrong : {r : List ℕ} {kind at : ℕ} {b : List ℕ} → Due r kind at b �
 due_wrong Head n h = NotFour n (eqb-false n 4 h)
 due_wrong (More m ts left b l) n h = UnderFour n (leb-false 4 n h)
 due_wrong (Winner ts left b l) n h = NotTwo n (eqb-false n 2 h)
-due_wrong (Shipping ts k left b l) n h = let z : ◌≡◌ {A = ℕ} 0 1 = cc in absurd (omega arith)
+due_wrong (Shipping ts k left b l) n h = absurd (cc)
 
 -- it is refused where it was due
 unread_fault : {r : List ℕ} {kind at : ℕ} {b : List ℕ} → Due r kind at b → (n p : ℕ) → Unread kind at b n p → Fault r n p
@@ -232,7 +231,7 @@ pub record Laid (r : List ℕ) (p : Report) : Type 0 where
 -- the bytes after kind 4, if there are any
 after_four : (r : List ℕ) (ts : List Trial) (k : ℕ) (ship left : List ℕ) → r ≡ report_of ts k ship ++ left → Scores ts → k < length ts → is_nil left ≡ false
     → Fault r 20 (length (report_of ts k ship))
-after_four r ts k ship [] e s w h = let z : ◌≡◌ {A = ℕ} 0 1 = cc in absurd (omega arith)
+after_four r ts k ship [] e s w h = absurd (cc)
 after_four r ts k ship (x ∷ left) e s w h = F20 ts k ship x left e s w
 
 reading_end : (r : List ℕ) (ts : List Trial) (left : List ℕ) → length r ≤ 60000 → Begins r (length ts) ts left → 0 < length ts → Bytes left

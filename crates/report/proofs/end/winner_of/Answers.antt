@@ -1,44 +1,42 @@
 -- `winner_of` meets its contract.
-use Rattle.std.proofs.Common.{◌+◌}
-use Rattle.report.proofs.record.Laws.{found, missed}
-use Rattle.report.proofs.end.Laws.{end_no, winner_missed, end_16, shipping_missed, end_20, end_17, end_is}
+use Rattle.report.proofs.record.Laws.{handed_on}
+use Rattle.report.proofs.end.Laws.{winner_missed, end_16, shipping_missed, end_20, end_17, end_is}
 use Rattle.report.proofs.end.winner_of.Goals as goal
 
-pub returns-in_default : goal.returns-in_default
-returns-in_default c =
+pub returns-in_err-record_at : goal.returns-in_err-record_at
+returns-in_err-record_at c =
     let a = c.args in
-    let no = c.in_default.is in
-    end_no a.r.now a.at a.count a.best no (winner_missed a.r.now a.at a.count a.best (missed a.r.now 3 a.at no c.record_at-due.ensures))
+    rw (handed_on _ _ c.from_residual.ensures.1) (winner_missed a.r.now a.at a.count a.best c.in_err-record_at.ensures)
 
 pub returns-then-count-winner : goal.returns-then-count-winner
 returns-then-count-winner c =
     let a = c.args in
-    end_no a.r.now a.at a.count a.best c.refusal.ensures
-    (end_16 a.r.now a.at a.count a.best (found c.in-Value.is c.record_at-due.ensures) c.word_at-winner.ensures.0 c.if-count-winner.true)
+    rw c.at.ensures
+    (end_16 a.r.now a.at a.count a.best c.in_ok-record_at.ensures c.word_at-winner.ensures.0 c.if-count-winner.true)
 
-pub returns-in_default-shipping : goal.returns-in_default-shipping
-returns-in_default-shipping c =
+pub returns-in_err-n : goal.returns-in_err-n
+returns-in_err-n c =
     let a = c.args in
-    let no = c.in_default-shipping.is in
-    end_no a.r.now a.at a.count a.best no
-    (shipping_missed a.r.now a.at a.count a.best (found c.in-Value.is c.record_at-due.ensures) c.word_at-winner.ensures.0
-    c.if-count-winner.false (missed a.r.now 4 (a.at + 6) no c.record_at-shipping.ensures))
+    rw (handed_on _ _ c.from_residual-in_err-n.ensures.1)
+    (shipping_missed a.r.now a.at a.count a.best c.in_ok-record_at.ensures c.word_at-winner.ensures.0 c.if-count-winner.false
+    c.in_err-n.ensures)
 
 pub returns-then-end-r : goal.returns-then-end-r
 returns-then-end-r c =
     let a = c.args in
-    end_no a.r.now a.at a.count a.best c.refusal-then-end-r.ensures
-    (end_20 a.r.now a.at a.count a.best (found c.in-Value.is c.record_at-due.ensures) c.word_at-winner.ensures.0 c.if-count-winner.false
-    (found c.in-Value-shipping.is c.record_at-shipping.ensures) c.if-end-r.true)
+    rw c.at-then-end-r.ensures
+    (end_20 a.r.now a.at a.count a.best c.in_ok-record_at.ensures c.word_at-winner.ensures.0 c.if-count-winner.false c.in_ok-n.ensures
+    c.if-end-r.true)
 
 pub returns-then-winner-best : goal.returns-then-winner-best
 returns-then-winner-best c =
     let a = c.args in
-    end_17 a.r.now a.at a.count a.best (found c.in-Value.is c.record_at-due.ensures) c.word_at-winner.ensures.0 c.if-count-winner.false
-    (found c.in-Value-shipping.is c.record_at-shipping.ensures) c.if-end-r.false c.refusal-then-winner-best.ensures c.if-winner-best.true
+    rw c.at-then-winner-best.ensures
+    (end_17 a.r.now a.at a.count a.best c.in_ok-record_at.ensures c.word_at-winner.ensures.0 c.if-count-winner.false c.in_ok-n.ensures
+    c.if-end-r.false c.if-winner-best.true)
 
 pub returns : goal.returns
 returns c =
     let a = c.args in
-    end_is a.r.now a.at a.count a.best (found c.in-Value.is c.record_at-due.ensures) c.word_at-winner.ensures.0 c.if-count-winner.false
-    (found c.in-Value-shipping.is c.record_at-shipping.ensures) c.if-end-r.false c.if-winner-best.false
+    end_is a.r.now a.at a.count a.best c.in_ok-record_at.ensures c.word_at-winner.ensures.0 c.if-count-winner.false c.in_ok-n.ensures
+    c.if-end-r.false c.if-winner-best.false

@@ -1,11 +1,10 @@
--- `write_line` meets its contract: in each arm the outcome is known.
+-- `write_line` meets its contract: in each arm the verdict is known.
 use Rattle.report.specs.Line.{text_of, line_of}
 use Rattle.report.proofs.line.write_line.Goals as goal
 
-pub returns-in-Value : goal.returns-in-Value
+pub returns-in-Ok : goal.returns-in-Ok
 unfolding line_of text_of
-returns-in-Value c = rw c.in-Value.is c.put_sentence.ensures
+returns-in-Ok c = rw c.in-Ok.is c.put_sentence.ensures
 
-pub returns-in-Refused : goal.returns-in-Refused
-unfolding line_of text_of
-returns-in-Refused c = rw c.in-Refused.is c.put_sentence-in-Refused.ensures
+pub returns-in-Err : goal.returns-in-Err
+returns-in-Err c = rw (c.in-Err.is, ← c.number.ensures) c.write_refusal.ensures

@@ -1,38 +1,31 @@
 -- `best_of` meets its contract.
-use Rattle.std.proofs.Common.{sym, subst, arith}
-use Rattle.command.specs.declared.settings.Settings.{Settings}
-use Rattle.report.specs.Inner.{BestAt}
-use Rattle.report.specs.declared.record.Outcome.{Outcome}
-use Rattle.report.proofs.record.Laws.{found, missed}
-use Rattle.report.proofs.trials.Turns.{Walked, walked_start, walked_better, walked_other, walked_missed, walked_end}
+use Rattle.std.proofs.Common.{arith, rules}
+use Rattle.report.proofs.record.Laws.{handed_on}
+use Rattle.report.proofs.trials.Turns.{Tested, walked_start, walked_better, walked_other, walked_missed, walked_some, walked_end}
 use Rattle.report.proofs.trials.best_of.Goals as goal
-use Rattle.report.proofs.trials.best_of.Goals.{then-i-score, else-i-score}
+use Rattle.report.proofs.trials.best_of.Goals.{then-is_none_or, else-is_none_or}
 
 pub loop-i-init : goal.loop-i-init
-loop-i-init c =
-    let r = c.args.r.now in
-    (omega arith, subst (λ (x : Settings). Walked r 0 8 x 0 0 x) (sym c.factory-start.ensures) (walked_start r c.requires.0))
+loop-i-init c = rw c.factory-last.ensures (walked_start c.args.r.now c.requires.0)
 
-pub returns-in_default : goal.returns-in_default
-returns-in_default c =
-    let r = c.args.r.now in
-    let no = c.in_default.is in
-    subst (λ (x : Outcome). BestAt r c.args.count x 0 0 c.factory-start.result) (sym no)
-    (walked_missed c.loop-i.invariant.1 c.loop-i-test.true (missed r 2 c.loop-i.at no c.record_at-due.ensures))
+pub returns-in_err-n : goal.returns-in_err-n
+returns-in_err-n c =
+    rw (handed_on _ _ c.from_residual.ensures.1) (walked_missed c.loop-i.invariant c.loop-i-test.true c.in_err-n.ensures)
 
 pub loop-i-preserved : goal.loop-i-preserved
 loop-i-preserved c =
-    let w = c.loop-i.invariant.1 in
-    let due = found c.in-Value.is c.record_at-due.ensures in (
-      omega arith,
-      elim c.if-i-score.branch [
-        | then-i-score q ↦
-            rw (q.trial-is, q.lowest-is, q.best-is) (walked_better w due c.long_at-score.ensures c.play.ensures.0 q.if-i-score.true)
-        | else-i-score q ↦
-            rw (q.trial-is, q.lowest-is, q.best-is) (walked_other w due c.long_at-score.ensures c.play.ensures.0 q.if-i-score.false)
-      ],
-    )
+    let w = c.loop-i.invariant in
+    let due = c.in_ok-n.ensures in
+    let test : Tested c.long_at-score.result c.loop-i.best c.is_none_or.result = search rules in
+    elim c.if-is_none_or.branch [
+      | then-is_none_or q ↦
+          rw q.best-is (walked_better w due c.long_at-score.ensures c.play.ensures.0 (rw q.if-is_none_or.true at test))
+      | else-is_none_or q ↦
+          rw q.best-is (walked_other w due c.long_at-score.ensures c.play.ensures.0 (rw q.if-is_none_or.false at test))
+    ]
+
+pub unwrap-requires : goal.unwrap-requires
+unwrap-requires c = walked_some c.loop-i.invariant (omega arith)
 
 pub returns : goal.returns
-returns c =
-    walked_end c.loop-i.invariant.1 (omega (arith, c.loop-i.invariant.0, c.loop-i-test.false)) c.requires.1
+returns c = walked_end (rw c.unwrap.ensures at c.loop-i.invariant) (omega arith)

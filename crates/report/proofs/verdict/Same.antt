@@ -1,13 +1,17 @@
--- Settings with the same values of every command are equal.
-use mathlib.Core.Path.{◌≡◌, refl, ap, fun_ext}
-use mathlib.Core.Bool.{Bool, true}
+-- Settings with the same values of every command are equal, and the derived equality compares those values.
+use mathlib.Core.Path.{◌≡◌, refl, ap, sym, ◌∙◌, fun_ext}
+use mathlib.Core.Bool.{Bool, true, false, not}
 use mathlib.Core.List.{List, [], ◌∷◌}
+use native.Mathlib.Omega.{arith}
+use borrow.Author.Tests.{not-true, not-false}
+use Rattle.std.proofs.lemmas.Grind.{common_steps}
 use Rattle.packet.proofs.Cases.{and_left, and_right, and_both}
 use Rattle.command.specs.Table.{table}
 use Rattle.command.specs.Settings.{values_of, settings_of}
 use Rattle.command.specs.declared.settings.Settings.{Settings}
 use Rattle.command.specs.declared.table.Command.{Command}
 use Rattle.command.specs.Data.{same_list}
+use Rattle.command.specs.contracts.settings.SettingsPartialEq.TheImpl as derived
 use Rattle.command.proofs.TableLaws.{each}
 use Rattle.command.proofs.DataLaws.{list_true, list_refl}
 use Rattle.report.specs.Report.{every, same_settings}
@@ -41,3 +45,16 @@ settings_true a b h = ap settings_of (fun_ext equal)
 pub settings_refl : (a : Settings) → same_settings a a ≡ true
 unfolding same_settings
 settings_refl a = every_all (λ c. same_list (values_of c a) (values_of c a)) (λ c. list_refl (values_of c a)) table
+
+-- what `==` of settings answers
+eq_is : (a b : Settings) → (derived.eq-value).it a b ≡ same_settings a b
+unfolding same_list same_settings every
+eq_is a b = grind (arith, common_steps)
+
+-- and `!=`
+module _ (a b : Settings) {r : Bool} (e : r ≡ not ((derived.eq-value).it a b)) where
+  pub ne_true : r ≡ true → same_settings a b ≡ false
+  ne_true h = sym (eq_is a b) ∙ not-true _ (sym e ∙ h)
+
+  pub ne_false : r ≡ false → same_settings a b ≡ true
+  ne_false h = sym (eq_is a b) ∙ not-false _ (sym e ∙ h)

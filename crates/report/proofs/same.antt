@@ -1,2 +1,0 @@
--- The laws of same.
-pub mod Laws
