@@ -1,17 +1,14 @@
 -- The calls at the boundary to C and Rust: what each answers, by the calls of the crates below. A refusal is document 01's number, 0 where there is none.
-use Rattle.std.specs.Prelude.{ℕ, ◌≡◌, cond, List, eqb, ltb, length}
-use Rattle.std.proofs.Math.Option.{Option, none, some}
+use Rattle.std.specs.Prelude.{ℕ, ◌≡◌, cond, List, eqb, ltb, length, Option, None, Some, Result, Ok, Err}
 use Rattle.packet.specs.Answer.{Performed}
 use Rattle.command.specs.Table.{command_of}
 use Rattle.command.specs.Settings.{values_of, factory}
 use Rattle.command.specs.declared.settings.Settings.{Settings}
 use Rattle.command.specs.declared.controller.Controller.{Controller}
-use Rattle.command.specs.declared.table.Found.{Found}
-use Rattle.command.specs.declared.table.Found.TheVariants.{Known, Unknown}
+use Rattle.command.specs.declared.table.Command.{Command}
 use Rattle.command.specs.Value.{value_from}
 use Rattle.command.specs.Endpoint as endpoint
 use Rattle.command.specs.Asking as asking
-use Rattle.command.specs.declared.ruling.Ruling.{Ruling}
 use Rattle.command.specs.declared.ruling.JudgementRecord.{JudgementRecord}
 use Rattle.command.specs.Encoder as encoding
 use Rattle.report.specs.Report as tuning
@@ -23,12 +20,12 @@ abbrev pub no_byte : ℕ
 no_byte = 0xFFFFFFFFFFFFFFFF
 
 abbrev pub byte_told : Option ℕ → ℕ
-byte_told none = no_byte
-byte_told (some n) = n
+byte_told None = no_byte
+byte_told (Some n) = n
 
 -- what such a number says
 abbrev pub byte_said : ℕ → Option ℕ
-byte_said n = cond (eqb n no_byte) none (some n)
+byte_said n = cond (eqb n no_byte) None (Some n)
 
 -- a number that tells this byte, or none
 pub record Tells (byte : Option ℕ) (n : ℕ) : Type 0 where
@@ -42,11 +39,11 @@ pub record Receives (after : endpoint.After) (refusal taken size wrong : ℕ) (c
 
 -- A refusal's number, 0 where there is none, and what it says.
 abbrev pub number_of : Option ℕ → ℕ
-number_of none = 0
-number_of (some n) = n
+number_of None = 0
+number_of (Some n) = n
 
 abbrev pub refusal_said : ℕ → Option ℕ
-refusal_said n = cond (eqb n 0) none (some n)
+refusal_said n = cond (eqb n 0) None (Some n)
 
 -- A judge call that does as `after` says: the refusal, and the judgement afterwards.
 pub record Asks (after : asking.Judging) (refusal : ℕ) (judgement : JudgementRecord) : Type 0 where
@@ -55,9 +52,10 @@ pub record Asks (after : asking.Judging) (refusal : ℕ) (judgement : JudgementR
   pub says : refusal_said refusal ≡ after.refusal
   pub leaves : judgement ≡ after.judgement
 
--- the same whatever numbers stood where those of the judgement are put
-abbrev pub AsksWith : (Ruling → asking.Judging) → ℕ → (Ruling → JudgementRecord) → Type 0
-AsksWith after refusal judgement = (n : Ruling) → Asks (after n) refusal (judgement n)
+-- An answer that has its refusal as a number.
+abbrev pub outcome_in : Result ℕ ℕ → encoding.Outcome
+outcome_in (Err n) = encoding.Refuses n
+outcome_in (Ok n) = encoding.Writes n
 
 -- A call that carries out a judgement as `after` says: the refusal, the response's length, the controller and the output afterwards.
 pub record Carries (after : asking.Carrying) (refusal size : ℕ) (controller : Controller) (output : List ℕ) : Type 0 where
@@ -77,9 +75,9 @@ pub record Emits (after : encoding.After) (refusal size : ℕ) (output : List �
   pub written : output ≡ after.output
 
 -- The encoder by a command's bytes: what the settings have for it. A command that is not in the table is refused with 2, after 1.
-abbrev pub write_for : Found → Settings → List ℕ → encoding.After
-write_for Unknown s out = encoding.refused (cond (ltb (length out) 64) 1 2) out
-write_for (Known c) s out = encoding.encode_call (value_from c (values_of c s)) out
+abbrev pub write_for : Option Command → Settings → List ℕ → encoding.After
+write_for None s out = encoding.refused (cond (ltb (length out) 64) 1 2) out
+write_for (Some c) s out = encoding.encode_call (value_from c (values_of c s)) out
 
 unfoldable pub write_call : ℕ → ℕ → Settings → List ℕ → encoding.After
 write_call cmd1 cmd2 s out = write_for (command_of cmd1 cmd2) s out

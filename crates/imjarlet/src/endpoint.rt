@@ -1,12 +1,10 @@
 // A head at power-up, and the receive call over a controller that the caller lends.
-ghost use Rattle.std.specs.Prelude.{◌≡◌, cond};
+ghost use Rattle.std.specs.Prelude.{◌≡◌};
 ghost use Rattle.command.specs.Controller.{fresh};
 ghost use Rattle.command.specs.Endpoint.{receive_call};
-ghost use Rattle.command.specs.Lent.{controller_of};
-ghost use Rattle.command.specs.Rules.{byte_of};
 ghost use Rattle.imjarlet.specs.Exports.{Tells, Receives};
 
-use command::{Controller, HOLD, Registers, Settings, WrongByte};
+use command::Controller;
 
 // Puts a fresh controller where the caller has one, whatever stood there.
 pub fn imjarlet_reset(c: &mut Controller) -> u32
@@ -16,61 +14,17 @@ pub fn imjarlet_reset(c: &mut Controller) -> u32
     0
 }
 
-// What a call leaves of a controller beside its arrays, and the refusal's number.
-#[derive(Drop)]
-struct Stepped {
-    settings: Settings,
-    registers: Registers,
-    // Whether the settings are to be stored. Otherwise they are as before.
-    stored: bool,
-    refusal: u32,
-}
-
 // What tells that no byte is wrong.
-const NO_WRONG_BYTE: u64 = 0xFFFF_FFFF_FFFF_FFFF;
+const NO_WRONG_BYTE: u64 = u64::MAX;
 
-// The byte that is wrong, as a number.
-fn told_byte(w: WrongByte) -> u64
-    ensures { Tells (byte_of w) result }
+// The byte that is wrong, as a number of the boundary's width; a record has it in 16 bits.
+fn told_byte(wrong: Option<u8>) -> u64
+    ensures { Tells wrong result }
 {
-    match w {
-        WrongByte::At(n) => n as u64,
-        WrongByte::Nothing => NO_WRONG_BYTE,
-    }
+    wrong.map_or(NO_WRONG_BYTE, u64::from)
 }
 
-// The receive call, the arrays lent.
-fn step(
-    settings: Settings,
-    registers: Registers,
-    buffer: &mut [u8; HOLD],
-    hold: &mut [u8; HOLD],
-    input: &[u8],
-    out: &mut [u8],
-    taken: &mut u64,
-    size: &mut u64,
-    wrong: &mut u64,
-) -> Stepped
-    ensures { Receives (receive_call (controller_of settings registers buffer.old hold.old) input.now out.old)
-        result.refusal taken.new size.new wrong.new (controller_of (cond result.stored result.settings settings) result.registers buffer.new hold.new) out.new }
-{
-    let s = command::serve(settings, registers, buffer, hold, input, out);
-    let after = s.settings;
-    let left = s.registers;
-    let answer = s.answer;
-    let byte = s.wrong;
-    let refusal = packet::told(answer, taken, size);
-    *wrong = told_byte(byte);
-    Stepped {
-        settings: after,
-        registers: left,
-        stored: s.stored,
-        refusal,
-    }
-}
-
-// Takes bytes until the input ends or one packet is complete. The controller's arrays are changed
-// where they stand, and its settings are stored only where a packet was complete.
+// Takes bytes until the input ends or one packet is complete. The controller is changed where it stands.
 pub fn imjarlet_receive(
     c: &mut Controller,
     input: &[u8],
@@ -82,20 +36,7 @@ pub fn imjarlet_receive(
     ensures { Receives (receive_call c.old input.now out.old)
         result taken.new size.new wrong.new c.new out.new }
 {
-    let s = step(
-        c.settings,
-        c.registers,
-        &mut c.buffer,
-        &mut c.hold,
-        input,
-        out,
-        taken,
-        size,
-        wrong,
-    );
-    c.registers = s.registers;
-    if s.stored {
-        c.settings = s.settings;
-    }
-    s.refusal
+    let reply = c.receive(input, out);
+    *wrong = told_byte(reply.wrong);
+    packet::told(reply.answer, taken, size)
 }

@@ -6,8 +6,10 @@
 //   asking    what a packet would draw, and carrying out a judgement, over what the caller lends
 //   encoder   the encoder and the standard shipping list
 //   verdict   the answer to a tuning report
+//   answer    a refusal's number and a length, from the answers of the crates below
 #![tactic(auto)]
 
+mod answer;
 mod asking;
 mod encoder;
 mod endpoint;

@@ -1,13 +1,12 @@
--- What a receive call leaves of the settings, and what its numbers say: no refusal has the number 0, and a response has at least seven bytes.
+-- What the numbers of a receive call say: no refusal has the number 0, and a response has at least seven bytes.
 use Prim.Native.Nat.{ℕ}
 use mathlib.Core.Path.{◌≡◌, refl}
-use mathlib.Core.Bool.{Bool, false, cond}
+use mathlib.Core.Bool.{false}
 use mathlib.Core.List.{List, [], ◌∷◌, ◌++◌}
 use native.Mathlib.Omega.{arith}
 use borrow.Author.Tests.{ne_eqb}
 use lib.Dec.{eqb, ltb}
 use lib.ListN.{length, length-append}
-use Rattle.packet.specs.Answer.{Outcome}
 use Rattle.packet.specs.Packet.{whole, checksum, header, sealed, packet_of}
 use Rattle.packet.specs.Receiver.{Received}
 use Rattle.packet.proofs.Cases.{cond_cases}
@@ -15,10 +14,7 @@ use Rattle.packet.proofs.Answering.{Sayable}
 use Rattle.command.specs.Controller.{in_rule}
 use Rattle.command.specs.Response.{response_type, response_data, response}
 use Rattle.command.specs.Endpoint.{taken_by, arrived_in, judged_in, response_in, After, receive_call}
-use Rattle.command.specs.Lent.{is_answered}
-use Rattle.command.specs.declared.settings.Settings.{Settings}
 use Rattle.command.specs.declared.controller.Controller.{Controller}
-use Rattle.command.proofs.EndpointLaws.{unanswered_keeps}
 
 some_bytes : (c : Controller) (t : Received) → eqb (length (response_in c t)) 0 ≡ false
 unfolding response_in response packet_of sealed
@@ -36,8 +32,3 @@ answer_sayable c input out =
   where
     Says : After → Type 0
     Says x = Sayable x.answer
-
--- settings that are stored exactly where the call answered are those that it leaves
-pub stored_settings : (c : Controller) (input out : List ℕ) {a : Outcome} {s : Settings} {stored : Bool}
-    → let r = receive_call c input out in a ≡ r.answer → s ≡ r.controller.settings → stored ≡ is_answered a → cond stored s c.settings ≡ s
-stored_settings c input out e f g = rw (g, e, f) (unanswered_keeps c input out)

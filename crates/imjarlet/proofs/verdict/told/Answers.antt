@@ -1,12 +1,12 @@
--- `told` meets its contract: in each arm the outcome is known.
+-- `told` meets its contract: in each arm the answer is known.
 use Rattle.std.proofs.Common.{refl}
 use Rattle.imjarlet.specs.Exports.{verdict_of, refusal_in}
 use Rattle.imjarlet.proofs.verdict.told.Goals as goal
 
-pub returns-in-Value : goal.returns-in-Value
+pub returns-in-Ok : goal.returns-in-Ok
 unfolding verdict_of refusal_in
-returns-in-Value c = rw c.in-Value.is (refl, refl)
+returns-in-Ok c = rw c.in-Ok.is (refl, refl)
 
-pub returns-in-Refused : goal.returns-in-Refused
+pub returns-in-Err : goal.returns-in-Err
 unfolding verdict_of refusal_in
-returns-in-Refused c = rw (c.in-Refused.is, c.factory.ensures) (refl, refl)
+returns-in-Err c = rw (c.in-Err.is, c.factory.ensures, c.number.ensures) (refl, refl)

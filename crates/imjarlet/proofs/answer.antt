@@ -1,0 +1,2 @@
+-- The laws of answer.
+pub mod Laws
