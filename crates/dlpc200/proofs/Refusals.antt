@@ -1,12 +1,11 @@
 -- When the receive call refuses: the tests are the words of ticket 1, and a refusal touches nothing lent.
-use Rattle.std.proofs.Common.{◌≡◌, ℕ, ◌+◌, false, cond, ◌&&◌, ltb, leb, ◌↔◌, List, length, refl, arith, ltb-false, le-ltb, leb-false}
-use mathlib.Core.Bool.{and-false}
-use borrow.Author.Tests.{lt-leb}
+use Rattle.std.proofs.Common.{◌≡◌, ℕ, ◌+◌, false, cond, ◌&&◌, ltb, leb, ◌↔◌, List, length, refl, arith, ltb-false, leb-false}
+use Rattle.std.proofs.lemmas.Bool.Decides.{nat_tests}
 use Rattle.packet.specs.Packet.{payload_length}
 use Rattle.packet.specs.Answer.{Refuses, Waits, Answers, Answering}
 use Rattle.packet.specs.Receiver.{packet_in_rule}
 use Rattle.packet.proofs.Cases.{bool_cases, cond_cases, and_cases}
-use Rattle.packet.proofs.Answering.{answering, refusal_number, answers_not_refused, waits_not_refused, all_taken}
+use Rattle.packet.proofs.Answering.{answering, refusal_number, all_taken}
 use Rattle.dlpc200.specs.Packet.{after_cmd4}
 use Rattle.dlpc200.specs.States.{in_range}
 use Rattle.dlpc200.specs.Device.{in_rule, receiver_of, receiving}
@@ -35,11 +34,11 @@ states_out s = (forth, back)
         h
 
     back : OutOfRange s → in_range s ≡ false
-    back (ParkOut h) = rw (lt-leb s.park 1 h)
-    back (SequenceOut h) = rw (lt-leb s.sequence 1 h, and-false)
-    back (EepromOut h) = rw (lt-leb s.eeprom 1 h, and-false)
-    back (FlashOut h) = rw (lt-leb s.flash 7 h, and-false)
-    back (LitOut h) = rw (lt-leb s.lit 1 h, and-false)
+    back (ParkOut h) = grind (arith, nat_tests)
+    back (SequenceOut h) = grind (arith, nat_tests)
+    back (EepromOut h) = grind (arith, nat_tests)
+    back (FlashOut h) = grind (arith, nat_tests)
+    back (LitOut h) = grind (arith, nat_tests)
 
 -- and the test of refusal 3 is the ticket's sentence.
 device_out : (d : Device) → (in_rule d ≡ false) ↔ OutOfRule d
@@ -55,7 +54,7 @@ device_out d = (forth, back)
 
     back : OutOfRule d → in_rule d ≡ false
     back (BadState h) = rw ((states_out d.states).1 h)
-    back (HasAllBytes h) = rw (le-ltb d.received (7 + payload_length d.header) h, and-false)
+    back (HasAllBytes h) = grind (arith, nat_tests)
 
 pub receive_refuses : (d : Device) (input out : List ℕ)
     → let r = receive_call d input out in
@@ -69,6 +68,6 @@ receive_refuses d input out =
     (λ x. x.answer ≡ cond t.complete (Answers t.taken (length (response_in d.states t))) (Waits (length input))) (refused 1 d out) (refused 3 d out)
     (ended d.states t out) out 64 3
     (λ n. refusal_number 1 n) (λ n. refusal_number 3 n)
-    (λ n. cond_cases (λ (x : After). x.answer ≡ Refuses n → ⊥) t.complete (λ _ h. answers_not_refused h) (λ _ h. waits_not_refused h))
+    (λ n. cond_cases (λ (x : After). x.answer ≡ Refuses n → ⊥) t.complete (λ _ h. cc) (λ _ h. cc))
     (λ h. omega arith) (refl, refl) (refl, refl)
     (bool_cases t.complete (λ e. rw e) (λ e. rw (e, all_taken after_cmd4 (receiver_of d) input e))) (in_rule d) (device_out d)

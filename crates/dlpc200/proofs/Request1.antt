@@ -1,6 +1,6 @@
 -- Ticket 1.
 use Rattle.std.proofs.Common.{◌≡◌, ℕ, ltb, ◌⊎◌, List, [], ◌∷◌, ◌++◌, length, get_or, take, drop, sym, refl, ap, ◌∙◌, subst, append-nil, arith, take_at, drop_at}
-use Rattle.packet.specs.Answer.{Refuses, Waits, Answers}
+use Rattle.packet.specs.Answer.{Waits, Answers}
 use Rattle.packet.specs.Receiver.{Received}
 use Rattle.packet.specs.Stream.{packets}
 use Rattle.packet.specs.Writer.{written}
@@ -63,14 +63,8 @@ module _ (d : Device) (input out : List ℕ) where
   unfolding receive_call
   left_waiting n =
       let P : After → Type 0 = λ x. x.answer ≡ Waits n → (x.output ≡ out) × (x.device.states ≡ d.states) in
-      cond_cases P (ltb (length out) 64) (λ _ h. refuses h)
-      (λ _. cond_cases P (in_rule d) (λ _. cond_cases P received.complete (λ _ h. answers h) (λ _ h. (refl, refl))) (λ _ h. refuses h))
-    where
-      refuses : {P : Type 0} {k : ℕ} → Refuses k ≡ Waits n → P
-      refuses h = let z : ◌≡◌ {A = ℕ} 0 1 = cc in absurd (omega arith)
-
-      answers : {P : Type 0} {k m : ℕ} → Answers k m ≡ Waits n → P
-      answers h = let z : ◌≡◌ {A = ℕ} 0 1 = cc in absurd (omega arith)
+      cond_cases P (ltb (length out) 64) (λ _ h. cc)
+      (λ _. cond_cases P (in_rule d) (λ _. cond_cases P received.complete (λ _ h. cc) (λ _ h. (refl, refl))) (λ _ h. cc))
 
   others_kept : OthersStay d.states (receive_call d input out).device.states
   unfolding receive_call
@@ -84,20 +78,11 @@ module _ (d : Device) (input out : List ℕ) where
   unfolding receive_call
   answers_by n m =
       let P : After → Type 0 = λ x. x.answer ≡ Answers n m → x ≡ answered d.states received out in
-      cond_cases P (ltb (length out) 64) (λ _ h. refuses h)
-      (λ _. cond_cases P (in_rule d) (λ _. cond_cases P received.complete (λ _ h. refl) (λ _ h. waits h)) (λ _ h. refuses h))
-    where
-      refuses : {P : Type 0} {k : ℕ} → Refuses k ≡ Answers n m → P
-      refuses h = let z : ◌≡◌ {A = ℕ} 0 1 = cc in absurd (omega arith)
-
-      waits : {P : Type 0} {k : ℕ} → Waits k ≡ Answers n m → P
-      waits h = let z : ◌≡◌ {A = ℕ} 0 1 = cc in absurd (omega arith)
+      cond_cases P (ltb (length out) 64) (λ _ h. cc)
+      (λ _. cond_cases P (in_rule d) (λ _. cond_cases P received.complete (λ _ h. refl) (λ _ h. cc)) (λ _ h. cc))
 
   answer_length : (n m : ℕ) → (receive_call d input out).answer ≡ Answers n m → m ≡ length (response_in d.states received)
-  answer_length n m h = same_answer (sym h ∙ ap (λ (x : After). x.answer) (answers_by n m h))
-    where
-      same_answer : {k l : ℕ} → Answers n m ≡ Answers k l → m ≡ l
-      same_answer e = cc
+  answer_length n m h = let e = sym h ∙ ap (λ (x : After). x.answer) (answers_by n m h) in cc
 
   response_written : (n m : ℕ) → (receive_call d input out).answer ≡ Answers n m
       → (take m (receive_call d input out).output ≡ response_in d.states received) × (drop m (receive_call d input out).output ≡ drop m out)

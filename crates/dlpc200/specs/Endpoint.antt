@@ -1,32 +1,23 @@
 -- The receive call: when it refuses, and what it answers and leaves.
-use Rattle.std.specs.Prelude.{ℕ, cond, List, length, nat_lt}
+use Rattle.std.specs.Prelude.{ℕ, cond, List, length, nat_lt, Result}
 use Rattle.packet.specs.Answer.{Outcome, Refuses, Waits, Answers, Performed}
-use Rattle.packet.specs.Packet.{payload_length}
 use Rattle.packet.specs.Writer.{written}
 use Rattle.packet.specs.Receiver.{Received}
-use Rattle.dlpc200.specs.Packet.{cmd1_of, cmd2_of, cmd4_of}
-use Rattle.dlpc200.specs.Judgement.{Arrived, command_in, judge, states_after}
+use Rattle.dlpc200.specs.Judgement.{arrived_of, judge, states_after}
 use Rattle.dlpc200.specs.Response.{response}
-use Rattle.dlpc200.specs.declared.judgement.Judgement.{Judgement}
+use Rattle.dlpc200.specs.declared.table.Command.{Command}
+use Rattle.dlpc200.specs.declared.status.Faults.{Faults}
+use Rattle.dlpc200.specs.declared.judgement.Arrived.{Arrived}
 use Rattle.dlpc200.specs.declared.states.States.{States}
 use Rattle.dlpc200.specs.declared.device.Device.{Device}
 use Rattle.dlpc200.specs.Device.{in_rule, device_of, receiving}
 
 -- the packet that is complete in a receiver, its checksum right or not; of its data the first four bytes are held
 abbrev pub arrived_in : Received → Arrived
-arrived_in t =
-    let header = t.receiver.header in
-    record {
-      cmd1 = cmd1_of header;
-      cmd2 = cmd2_of header;
-      cmd4 = cmd4_of header;
-      size = payload_length header;
-      right = t.right;
-      command = command_in (payload_length header) t.receiver.hold;
-    }
+arrived_in t = arrived_of t.receiver.header t.receiver.hold t.right
 
 -- how it is judged, and what it draws
-unfoldable pub judged_in : Received → Judgement
+unfoldable pub judged_in : Received → Result Command Faults
 judged_in t = judge (arrived_in t)
 
 unfoldable pub response_in : States → Received → List ℕ

@@ -1,12 +1,13 @@
 -- Packets one after the other: what each draws, and the states at the end.
-use Rattle.std.specs.Prelude.{ℕ, List, [], ◌∷◌}
+use Rattle.std.specs.Prelude.{ℕ, List, [], ◌∷◌, Result}
 use Rattle.dlpc200.specs.Judgement.{arrived, judge, states_after}
 use Rattle.dlpc200.specs.Response.{response}
-use Rattle.dlpc200.specs.declared.judgement.Judgement.{Judgement}
+use Rattle.dlpc200.specs.declared.table.Command.{Command}
+use Rattle.dlpc200.specs.declared.status.Faults.{Faults}
 use Rattle.dlpc200.specs.declared.states.States.{States}
 
 -- a packet is judged
-unfoldable pub judged : List ℕ → Judgement
+unfoldable pub judged : List ℕ → Result Command Faults
 judged p = judge (arrived p)
 
 -- draws a response

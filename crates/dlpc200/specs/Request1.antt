@@ -1,6 +1,6 @@
 -- What ticket 1 asks of the device and its receive call, as one claim. The faults of a packet and the refusals are said here once more, as the ticket lists them, by
 -- equations and orders.
-use Rattle.std.specs.Prelude.{◌≡◌, ℕ, ◌+◌, ◌<◌, ◌≤◌, true, cond, ◌⊎◌, ◌↔◌, List, [], ◌∷◌, ◌++◌, length, take, drop, ◌≢◌, slice_index, slice_index_or}
+use Rattle.std.specs.Prelude.{◌≡◌, ℕ, ◌+◌, ◌<◌, ◌≤◌, true, cond, ◌⊎◌, ◌↔◌, List, [], ◌∷◌, ◌++◌, length, take, drop, ◌≢◌, slice_index, slice_index_or, Ok, Err}
 use Rattle.packet.specs.Answer.{Refuses, Waits, Answers, Answering}
 use Rattle.packet.specs.Calls.{Served}
 use Rattle.packet.specs.Packet.{payload_length, payload}
@@ -19,7 +19,6 @@ use Rattle.dlpc200.specs.Sending.{Sending, sent_to, Ready, Boundary}
 use Rattle.dlpc200.specs.declared.table.Command.{Command}
 use Rattle.dlpc200.specs.declared.table.Command.TheVariants.{ParkDmd, UnparkDmd, GetDmdSoftwareParkState}
 use Rattle.dlpc200.specs.declared.status.Faults.{Faults}
-use Rattle.dlpc200.specs.declared.judgement.Judgement.TheVariants.{Failed, Done}
 use Rattle.dlpc200.specs.declared.states.States.{States}
 use Rattle.dlpc200.specs.declared.device.Device.{Device}
 
@@ -69,14 +68,14 @@ pub data Fails (p : List ℕ) (f : Faults) : Type 0 where
 -- packets that all fail
 abbrev pub AllFail : List (List ℕ) → Type 0
 AllFail [] = Unit {0}
-AllFail (p ∷ ps) = ((f : Faults) × (judged p ≡ Failed f)) × AllFail ps
+AllFail (p ∷ ps) = ((f : Faults) × (judged p ≡ Err f)) × AllFail ps
 
 -- Park and unpark.
 
 -- no packet of these is a park or an unpark that is carried out
 abbrev pub NoneParks : List (List ℕ) → Type 0
 NoneParks [] = Unit {0}
-NoneParks (p ∷ ps) = (judged p ≢ Done ParkDmd) × (judged p ≢ Done UnparkDmd) × NoneParks ps
+NoneParks (p ∷ ps) = (judged p ≢ Ok ParkDmd) × (judged p ≢ Ok UnparkDmd) × NoneParks ps
 
 -- After the command c a read of 0015 answers v: on every device at a packet boundary and for every stream, however it is sent.
 -- Among the packets of the stream p carries out c, and q, later, a read of 0015; none between them is a park or an unpark that is carried out. The answer to q
@@ -86,9 +85,9 @@ ReadAfter c v =
     (d : Device) (b : List ℕ) (s : Sending b) (before between later : List (List ℕ)) (p q : List ℕ)
     → Boundary d
     → packets b ≡ (before ++ (p ∷ between)) ++ (q ∷ later)
-    → judged p ≡ Done c
+    → judged p ≡ Ok c
     → NoneParks between
-    → judged q ≡ Done GetDmdSoftwareParkState
+    → judged q ≡ Ok GetDmdSoftwareParkState
     → slice_index_or (sent_to d s).given (length (before ++ (p ∷ between))) [] ≡ packet_of read_resp (0x00 ∷ 0x00 ∷ v ∷ [])
 
 -- the states t are s but for the park state
@@ -126,21 +125,21 @@ pub record Request1 : Type 0 where
   -- "CMD3 00 (not judged)": a packet with another is the same to the rules
   pub cmd3 : (first second third other : ℕ) (q : List ℕ) → arrived (first ∷ second ∷ third ∷ q) ≡ arrived (first ∷ second ∷ other ∷ q)
   -- a packet fails with all faults that hold of it, exactly when there is one or its command is unknown,
-  pub failed : (p : List ℕ) (f : Faults) → (judged p ≡ Failed f) ↔ (FaultsHold p f × Fails p f)
+  pub failed : (p : List ℕ) (f : Faults) → (judged p ≡ Err f) ↔ (FaultsHold p f × Fails p f)
   -- and its command is carried out exactly when the packet names it and no fault holds
-  pub done : (p : List ℕ) (c : Command) → (judged p ≡ Done c) ↔ (Names p c × FaultsHold p no_faults)
+  pub done : (p : List ℕ) (c : Command) → (judged p ≡ Ok c) ↔ (Names p c × FaultsHold p no_faults)
   -- a failed packet changes no state, and a stream of such packets none
-  pub leaves : (s : States) (p : List ℕ) (f : Faults) → judged p ≡ Failed f → next s p ≡ s
+  pub leaves : (s : States) (p : List ℕ) (f : Faults) → judged p ≡ Err f → next s p ≡ s
   pub bad_stream : (d : Device) (b : List ℕ) (s : Sending b) → Boundary d → AllFail (packets b) → (sent_to d s).state.states ≡ d.states
   -- "A failed packet sets the bits of all that hold and bit 6 of Data[0] too"; "its response has the two status bytes only, as a read response for CMD1 04 and a write
   -- response otherwise";
-  pub status : (s : States) (p : List ℕ) (f : Faults) → judged p ≡ Failed f
+  pub status : (s : States) (p : List ℕ) (f : Faults) → judged p ≡ Err f
       → answer_to s p ≡ packet_of (response_type (cmd1_of p)) (data0 f ∷ data1 f ∷ [])
   -- "an unknown command by itself sets bit 6 alone"
   pub alone : (s : States) (p : List ℕ) → ((c : Command) → Names p c → ⊥) → FaultsHold p no_faults
       → answer_to s p ≡ packet_of (response_type (cmd1_of p)) (0x40 ∷ 0x00 ∷ [])
   -- a command that is carried out is answered as in its section: no error bit, and after the status bytes the state that it reads
-  pub answers : (s : States) (p : List ℕ) (c : Command) → judged p ≡ Done c
+  pub answers : (s : States) (p : List ℕ) (c : Command) → judged p ≡ Ok c
       → answer_to s p ≡ packet_of (response_type (cmd1_for c)) (0x00 ∷ 0x00 ∷ data_of (shown_of s c))
   -- "Every response carries AA, 00, 00 as CMD2 to CMD4, whatever came"
   pub front : (s : States) (p : List ℕ) → take 4 (answer_to s p) ≡ response_type (cmd1_of p) ∷ 0xAA ∷ 0x00 ∷ 0x00 ∷ []
@@ -155,7 +154,7 @@ pub record Request1 : Type 0 where
   pub others : (s : States) (p : List ℕ) → OthersStay s (next s p)
   pub kept : (d : Device) (input out : List ℕ) → OthersStay d.states (receive_call d input out).device.states
   -- a command that is carried out and is neither park nor unpark leaves the park state too
-  pub reads : (s : States) (p : List ℕ) (c : Command) → judged p ≡ Done c → (c ≢ ParkDmd) → (c ≢ UnparkDmd) → next s p ≡ s
+  pub reads : (s : States) (p : List ℕ) (c : Command) → judged p ≡ Ok c → (c ≢ ParkDmd) → (c ≢ UnparkDmd) → next s p ≡ s
   -- "in their sections' ranges": a device made with such states is one of those
   pub begins : (s : States) → (OutOfRange s → ⊥) → Boundary (device_with s)
   -- "checksum over everything after CMD4": with up to four bytes received nothing is summed yet, and the sum begins anew with the first byte after CMD4. To a call

@@ -1,25 +1,23 @@
 -- The states that the commands read: "the other states are bytes the host supplies, in their sections' ranges".
-use Rattle.std.specs.Prelude.{ℕ, Bool, ◌&&◌, List, [], ◌∷◌, nat_le}
+use Rattle.std.specs.Prelude.{ℕ, Bool, ◌&&◌, List, [], ◌∷◌, nat_le, Option, None, Some}
 use Rattle.dlpc200.specs.declared.table.Command.{Command}
 use Rattle.dlpc200.specs.declared.table.Command.TheVariants.{ParkDmd, UnparkDmd, GetDmdSoftwareParkState, GetSeqRunState, GetEepromFault, GetInitFromParallelFlashFail, GetOverallLedLampLitState}
 use Rattle.dlpc200.specs.declared.states.States.{States}
-use Rattle.dlpc200.specs.declared.states.Shown.{Shown}
-use Rattle.dlpc200.specs.declared.states.Shown.TheVariants.{State, Nothing}
 
 -- what a command answers after the status bytes: a Get command its state, as Data[2] of its section's response
-abbrev pub shown_of : States → Command → Shown
-shown_of s ParkDmd = Nothing
-shown_of s UnparkDmd = Nothing
-shown_of s GetDmdSoftwareParkState = State s.park
-shown_of s GetSeqRunState = State s.sequence
-shown_of s GetEepromFault = State s.eeprom
-shown_of s GetInitFromParallelFlashFail = State s.flash
-shown_of s GetOverallLedLampLitState = State s.lit
+abbrev pub shown_of : States → Command → Option ℕ
+shown_of s ParkDmd = None
+shown_of s UnparkDmd = None
+shown_of s GetDmdSoftwareParkState = Some s.park
+shown_of s GetSeqRunState = Some s.sequence
+shown_of s GetEepromFault = Some s.eeprom
+shown_of s GetInitFromParallelFlashFail = Some s.flash
+shown_of s GetOverallLedLampLitState = Some s.lit
 
 -- as data
-abbrev pub data_of : Shown → List ℕ
-data_of Nothing = []
-data_of (State v) = v ∷ []
+abbrev pub data_of : Option ℕ → List ℕ
+data_of None = []
+data_of (Some v) = v ∷ []
 
 -- "park sets what 0015 reads and unpark clears it": the park state after a command that was carried out
 abbrev pub park_after : Command → ℕ → ℕ

@@ -1,10 +1,8 @@
 -- The seven commands that the request starts with: their IDs, and the CMD1 and the data size of their packets.
-use Rattle.std.specs.Prelude.{ℕ, cond, List, [], ◌∷◌, ◌==◌}
+use Rattle.std.specs.Prelude.{ℕ, cond, List, [], ◌∷◌, ◌==◌, Option, None, Some}
 use Rattle.dlpc200.specs.Packet.{write, read}
 use Rattle.dlpc200.specs.declared.table.Command.{Command}
 use Rattle.dlpc200.specs.declared.table.Command.TheVariants.{ParkDmd, UnparkDmd, GetDmdSoftwareParkState, GetSeqRunState, GetEepromFault, GetInitFromParallelFlashFail, GetOverallLedLampLitState}
-use Rattle.dlpc200.specs.declared.table.Found.{Found}
-use Rattle.dlpc200.specs.declared.table.Found.TheVariants.{Known, Unknown}
 
 -- the commands in the order of their sections: 6.6, 6.7, 6.22, 6.23, 6.24, 6.42, 6.43
 abbrev pub table : List Command
@@ -35,10 +33,10 @@ cmd1_for GetOverallLedLampLitState = read
 abbrev pub size_for : Command → ℕ
 size_for c = 2
 
-unfoldable pub find : ℕ → List Command → Found
-find id [] = Unknown
-find id (c ∷ cs) = let later = find id cs in cond (id == id_for c) (Known c) later
+unfoldable pub find : ℕ → List Command → Option Command
+find id [] = None
+find id (c ∷ cs) = let later = find id cs in cond (id == id_for c) (Some c) later
 
 -- the command of an ID, if it is in the table
-unfoldable pub command_of : ℕ → Found
+unfoldable pub command_of : ℕ → Option Command
 command_of id = find id table

@@ -1,12 +1,10 @@
 // The device: what has come in of the current packet, and the states. Firmware lends it, so it is
 // made of numbers alone and means something whatever they are.
 ghost use Rattle.std.specs.Prelude.{◌≡◌};
-ghost use Rattle.dlpc200.specs.Device.{device_with, in_rule, receiving};
-ghost use Rattle.dlpc200.specs.Inner.{received_by};
 
 use crate::header::{AFTER_CMD4, HOLD};
 use crate::states::States;
-use packet::HEADER;
+use packet::{HEADER, Taken};
 
 // Each field is as wide as the room up to the next one: a record that is lent has no holes.
 #[repr(C)]
@@ -25,16 +23,10 @@ pub struct Device {
     pub states: States,
 }
 
-// What one call took. `right` tells whether the checksum was, once a packet is complete.
-#[derive(Drop)]
-pub(crate) struct Received {
-    pub taken: usize,
-    pub complete: bool,
-    pub right: bool,
-    pub device: Device,
-}
-
 impl Device {
+    ghost use Rattle.dlpc200.specs.Device.{device_with, in_rule, receiving};
+    ghost use Rattle.dlpc200.specs.Inner.{received_by};
+
     // A device between two packets, with the states that the host supplies.
     pub fn with(states: States) -> Device
         ensures { result ≡ device_with states }
@@ -44,46 +36,32 @@ impl Device {
             header: [0; HEADER],
             hold: [0; HOLD],
             sum: 0,
-            states: states,
+            states,
         }
     }
 
     // What refusal 3 lets pass.
-    pub(crate) fn in_rule(self) -> bool
-        ensures { result ≡ in_rule self }
+    pub(crate) fn in_rule(&self) -> bool
+        ensures { result ≡ in_rule self.now }
     {
-        let states = self.states;
-        let header = self.header;
-        states.in_range() & packet::packet_in_rule(header, self.received as usize)
+        self.states.in_range() && packet::packet_in_rule(self.header, self.received as usize)
     }
 
     // Takes bytes until the input ends or one packet is complete, as the packet layer does. Data
     // bytes behind the hold find no room: they are counted, summed and dropped.
-    pub(crate) fn take(self, input: &[u8]) -> Received
-        ensures { (received_by result ≡ receiving self input.now) × (result.device.states ≡ self.states) }
+    pub(crate) fn take(&mut self, input: &[u8]) -> Taken
+        ensures { (received_by result self.new ≡ receiving self.old input.now) × (self.new.states ≡ self.old.states) }
     {
-        let mut header = self.header;
-        let mut hold = self.hold;
-        let states = self.states;
-        let t = packet::receive(
-            &mut header,
+        let taken = packet::receive(
+            &mut self.header,
             self.sum,
             self.received as usize,
-            &mut hold,
+            &mut self.hold,
             AFTER_CMD4,
             input,
         );
-        Received {
-            taken: t.taken,
-            complete: t.complete,
-            right: t.right,
-            device: Device {
-                received: t.received as u32,
-                header,
-                hold,
-                sum: t.sum,
-                states,
-            },
-        }
+        self.sum = taken.sum;
+        self.received = taken.received as u32;
+        taken
     }
 }

@@ -8,28 +8,6 @@ ghost use Rattle.dlpc200.specs.Status.{fault_bits};
 use crate::device::Device;
 use crate::states::States;
 
-// The device after a call, and the refusal's number.
-#[derive(Drop)]
-struct Stepped {
-    device: Device,
-    refusal: u32,
-}
-
-// The receive call with its answer told as numbers.
-fn step(device: Device, input: &[u8], out: &mut [u8], taken: &mut u64, size: &mut u64) -> Stepped
-    ensures { Receives (receive_call device input.now out.old)
-        result.refusal taken.new size.new result.device out.new }
-{
-    let s = crate::endpoint::receive(device, input, out);
-    let after = s.device;
-    let answer = s.answer;
-    let refusal = packet::told(answer, taken, size);
-    Stepped {
-        device: after,
-        refusal,
-    }
-}
-
 // A device between two packets, with the states that the host supplies.
 pub fn dlpc200_reset(device: &mut Device, states: &States) -> u32
     ensures { (result ≡ 0) × (device.new ≡ device_with states.now) }
@@ -49,9 +27,7 @@ pub fn dlpc200_receive(
     ensures { Receives (receive_call device.old input.now out.old)
         result taken.new size.new device.new out.new }
 {
-    let s = step(*device, input, out, taken, size);
-    *device = s.device;
-    s.refusal
+    packet::told(device.receive(input, out), taken, size)
 }
 
 // How many faults a response carries beside bit 6, by its Data[0] and Data[1].

@@ -11,7 +11,8 @@ pub(crate) const HOLD: usize = 4;
 
 pub(crate) const DATA_LIMIT: usize = 504;
 
-// CMD1 of what the host sends.
+// CMD1 of what the host sends. A packet may come with any byte there, which is compared with these:
+// an enum would be no plainer.
 pub(crate) const WRITE: u8 = 0x02;
 
 pub(crate) const READ: u8 = 0x04;

@@ -5,10 +5,10 @@
 //   table      the commands, their IDs and their CMD1
 //   states     the states that the commands read
 //   status     the faults of a packet, and the two status bytes of its response
-//   judgement  how a complete packet is judged, and what that changes
+//   judgement  how a complete packet is judged
 //   response   writing the response
 //   device     the current packet and the states; taking packets from a stream
-//   endpoint   the receive call
+//   endpoint   the receive call, and what a command changes
 //   exports    the calls for C and Rust
 #![tactic(auto)]
 

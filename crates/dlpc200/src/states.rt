@@ -20,37 +20,25 @@ pub struct States {
     pub lit: u8,
 }
 
-// What a command answers after the status bytes.
-#[derive(Drop)]
-pub(crate) enum Shown {
-    State(u8),
-    Nothing,
-}
-
 impl States {
     // Each state is in its section's range.
     pub(crate) fn in_range(self) -> bool
         ensures { result ≡ in_range self }
     {
-        (self.park <= 1)
-            & (self.sequence <= 1)
-            & (self.eeprom <= 1)
-            & (self.flash <= 7)
-            & (self.lit <= 1)
+        self.park <= 1 && self.sequence <= 1 && self.eeprom <= 1 && self.flash <= 7 && self.lit <= 1
     }
 
-    // The state that a command reads.
-    pub(crate) fn shown(self, c: Command) -> Shown
-        ensures { result ≡ shown_of self c }
+    // The state that a command reads, if it reads one.
+    pub(crate) fn shown(self, command: Command) -> Option<u8>
+        ensures { result ≡ shown_of self command }
     {
-        match c {
-            Command::ParkDmd => Shown::Nothing,
-            Command::UnparkDmd => Shown::Nothing,
-            Command::GetDmdSoftwareParkState => Shown::State(self.park),
-            Command::GetSeqRunState => Shown::State(self.sequence),
-            Command::GetEepromFault => Shown::State(self.eeprom),
-            Command::GetInitFromParallelFlashFail => Shown::State(self.flash),
-            Command::GetOverallLedLampLitState => Shown::State(self.lit),
+        match command {
+            Command::ParkDmd | Command::UnparkDmd => None,
+            Command::GetDmdSoftwareParkState => Some(self.park),
+            Command::GetSeqRunState => Some(self.sequence),
+            Command::GetEepromFault => Some(self.eeprom),
+            Command::GetInitFromParallelFlashFail => Some(self.flash),
+            Command::GetOverallLedLampLitState => Some(self.lit),
         }
     }
 }

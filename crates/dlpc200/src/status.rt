@@ -16,8 +16,9 @@ const PROCESSING_FAILED: u8 = 0x40;
 // The error bit of Data[1].
 const WRONG_DATA_SIZE: u8 = 0x08;
 
-// Every fault that holds of a packet.
-#[derive(Clone, Copy)]
+// Every fault that holds of a packet. With none of them a packet failed because its command is
+// unknown.
+#[derive(Clone, Copy, Default)]
 pub(crate) struct Faults {
     pub checksum: bool,
     pub cmd1: bool,
@@ -27,20 +28,29 @@ pub(crate) struct Faults {
 }
 
 impl Faults {
-    // With none of them a packet failed because its command is unknown.
-    pub(crate) const NONE: Faults = Faults {
-        checksum: false,
-        cmd1: false,
-        cmd2: false,
-        cmd4: false,
-        size: false,
-    };
-
     // One of them holds, or several.
     pub(crate) fn any(self) -> bool
         ensures { result ≡ any_fault self }
     {
-        self.checksum | self.cmd1 | self.cmd2 | self.cmd4 | self.size
+        self.checksum || self.cmd1 || self.cmd2 || self.cmd4 || self.size
+    }
+
+    // Data[0] of a packet that failed with these: a bit for each fault, and bit 6.
+    pub(crate) fn data0(self) -> u8
+        ensures { result ≡ data0 self }
+    {
+        flag(self.checksum, CHECKSUM_ERROR)
+            + flag(self.cmd1, INVALID_CMD1)
+            + flag(self.cmd2, INVALID_CMD2)
+            + flag(self.cmd4, INVALID_CMD4)
+            + PROCESSING_FAILED
+    }
+
+    // Data[1] of such a packet.
+    pub(crate) fn data1(self) -> u8
+        ensures { result ≡ data1 self }
+    {
+        flag(self.size, WRONG_DATA_SIZE)
     }
 }
 
@@ -51,28 +61,10 @@ fn flag(holds: bool, value: u8) -> u8
     if holds { value } else { 0 }
 }
 
-// Data[0] of a failed packet: a bit for each fault, and bit 6.
-pub(crate) fn status0(f: Faults) -> u8
-    ensures { result ≡ data0 f }
-{
-    flag(f.checksum, CHECKSUM_ERROR)
-        + flag(f.cmd1, INVALID_CMD1)
-        + flag(f.cmd2, INVALID_CMD2)
-        + flag(f.cmd4, INVALID_CMD4)
-        + PROCESSING_FAILED
-}
-
-// Data[1] of a failed packet.
-pub(crate) fn status1(f: Faults) -> u8
-    ensures { result ≡ data1 f }
-{
-    flag(f.size, WRONG_DATA_SIZE)
-}
-
 // How many faults a response carries beside bit 6 of Data[0].
 #[tactic(auto, unfolding(crate::specs::Status::fault_bits))]
 pub fn fault_count(data0: u8, data1: u8) -> u32
     ensures { result ≡ fault_bits data0 data1 }
 {
-    u8::count_ones(data0 & !PROCESSING_FAILED) + u8::count_ones(data1)
+    (data0 & !PROCESSING_FAILED).count_ones() + data1.count_ones()
 }

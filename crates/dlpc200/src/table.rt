@@ -16,27 +16,22 @@ pub(crate) enum Command {
     GetOverallLedLampLitState,
 }
 
-// The command of an ID, if it is in the table.
-#[derive(Clone, Copy)]
-pub(crate) enum Found {
-    Known(Command),
-    Unknown,
-}
-
 impl Command {
+    // The command of an ID, if it is in the table. An ID that is not is no error here: the packet may
+    // have other faults.
     #[tactic(auto, unfolding(crate::specs::Table::find, crate::specs::Table::command_of))]
-    pub(crate) fn find(id: usize) -> Found
+    pub(crate) fn find(id: usize) -> Option<Command>
         ensures { result ≡ command_of id }
     {
         match id {
-            0x0005 => Found::Known(Command::ParkDmd),
-            0x0006 => Found::Known(Command::UnparkDmd),
-            0x0015 => Found::Known(Command::GetDmdSoftwareParkState),
-            0x0016 => Found::Known(Command::GetSeqRunState),
-            0x0017 => Found::Known(Command::GetEepromFault),
-            0x0029 => Found::Known(Command::GetInitFromParallelFlashFail),
-            0x002A => Found::Known(Command::GetOverallLedLampLitState),
-            _ => Found::Unknown,
+            0x0005 => Some(Command::ParkDmd),
+            0x0006 => Some(Command::UnparkDmd),
+            0x0015 => Some(Command::GetDmdSoftwareParkState),
+            0x0016 => Some(Command::GetSeqRunState),
+            0x0017 => Some(Command::GetEepromFault),
+            0x0029 => Some(Command::GetInitFromParallelFlashFail),
+            0x002A => Some(Command::GetOverallLedLampLitState),
+            _ => None,
         }
     }
 
@@ -45,28 +40,27 @@ impl Command {
         ensures { result ≡ cmd1_for self }
     {
         match self {
-            Command::ParkDmd => WRITE,
-            Command::UnparkDmd => WRITE,
-            Command::GetDmdSoftwareParkState => READ,
-            Command::GetSeqRunState => READ,
-            Command::GetEepromFault => READ,
-            Command::GetInitFromParallelFlashFail => READ,
-            Command::GetOverallLedLampLitState => READ,
+            Command::ParkDmd | Command::UnparkDmd => WRITE,
+            Command::GetDmdSoftwareParkState
+            | Command::GetSeqRunState
+            | Command::GetEepromFault
+            | Command::GetInitFromParallelFlashFail
+            | Command::GetOverallLedLampLitState => READ,
         }
     }
 
-    // The park state after this command, v being the one before.
-    pub(crate) fn park(self, v: u8) -> u8
-        ensures { result ≡ park_after self v }
+    // The park state after this command, `before` being the one before it.
+    pub(crate) fn park(self, before: u8) -> u8
+        ensures { result ≡ park_after self before }
     {
         match self {
             Command::ParkDmd => 1,
             Command::UnparkDmd => 0,
-            Command::GetDmdSoftwareParkState => v,
-            Command::GetSeqRunState => v,
-            Command::GetEepromFault => v,
-            Command::GetInitFromParallelFlashFail => v,
-            Command::GetOverallLedLampLitState => v,
+            Command::GetDmdSoftwareParkState
+            | Command::GetSeqRunState
+            | Command::GetEepromFault
+            | Command::GetInitFromParallelFlashFail
+            | Command::GetOverallLedLampLitState => before,
         }
     }
 }

@@ -1,6 +1,6 @@
 -- From a packet boundary the receive call follows the judging of packet after packet, over whole streams.
 use Rattle.std.proofs.Common.{◌≡◌, ℕ, suc, ◌+◌, ◌-◌, ◌≤◌, false, ltb, List, [], ◌∷◌, ◌++◌, length, take, drop, sym, refl, ap, ◌∙◌, subst, ap₂, arith, length-append, length-drop, length-take-le, get_or-take, take_at, drop_at, ltb-false}
-use mathlib.Core.Option.{some}
+use Rattle.std.specs.Prelude.{Some}
 use lib.Seq.{sets}
 use Rattle.packet.specs.Packet.{payload_length, payload, checksum as packet_checksum}
 use Rattle.packet.specs.Stream.{size, has_packet, packets}
@@ -14,8 +14,7 @@ use Rattle.packet.specs.Receiver.{Receiver as PacketReceiver, Received, with, wa
 use Rattle.packet.proofs.ReceiverLaws.{Between, after_packet, right_from, one, first_of, too_few}
 use Rattle.dlpc200.specs.Packet.{after_cmd4, checksum, right_sum}
 use Rattle.dlpc200.specs.Device.{receiver_of, device_of}
-use Rattle.dlpc200.specs.Inner.{arrived_by}
-use Rattle.dlpc200.specs.Judgement.{command_in, arrived, judge, states_after}
+use Rattle.dlpc200.specs.Judgement.{command_in, arrived_of, arrived, judge, states_after}
 use Rattle.dlpc200.specs.Response.{response}
 use Rattle.dlpc200.specs.declared.states.States.{States}
 use Rattle.dlpc200.specs.Playing.{judged, answer_to, next, responses, after}
@@ -47,7 +46,7 @@ module _ (p : List ℕ) (i : IsPacket p) (hold : List ℕ) (m : length hold ≡ 
       let l : 2 ≤ length d = omega (arith, data_length, ltb-false (payload_length p) 2 e) in
       rw (sets_get d hold 0 (omega arith) (omega arith), sets_get d hold 1 (omega arith) (omega arith)))
 
-  same_arrived : arrived_by (take 6 p) (sets hold 0 d) (right_sum p) ≡ arrived p
+  same_arrived : arrived_of (take 6 p) (sets hold 0 d) (right_sum p) ≡ arrived p
   same_arrived =
       rw (get_or-take 6 p 0 0 (omega arith), get_or-take 6 p 1 0 (omega arith), get_or-take 6 p 3 0 (omega arith), get_or-take 6 p 4 0 (omega arith), get_or-take 6 p 5 0 (omega arith), same_command_lem)
 
@@ -56,14 +55,10 @@ same_right : (p : List ℕ) → right_from after_cmd4 p ≡ right_sum p
 unfolding right_sum checksum packet_checksum
 same_right p = refl
 
--- the packet complete in a receiver is that of the header and the data that it holds
-arrived_in_lem : (t : Received) → arrived_in t ≡ arrived_by t.receiver.header t.receiver.hold t.right
-arrived_in_lem t = refl
-
--- so it is judged as that, and draws what that draws
+-- so it is judged as that packet, and draws what that draws
 module _ (s : States) (q : PacketReceiver) (m : Made q) (p : List ℕ) (i : IsPacket p) where
   same_packet : arrived_in (one after_cmd4 q p) ≡ arrived p
-  same_packet = arrived_in_lem (one after_cmd4 q p) ∙ ap (arrived_by (take 6 p) (sets q.hold 0 (payload p))) (same_right p) ∙ same_arrived p i q.hold m.hold
+  same_packet = ap (arrived_of (take 6 p) (sets q.hold 0 (payload p))) (same_right p) ∙ same_arrived p i q.hold m.hold
 
   same_judged : judged_in (one after_cmd4 q p) ≡ judged p
   unfolding judged_in judged
@@ -124,8 +119,8 @@ module _ (out : List ℕ) (l : 64 ≤ length out) where
       ∙ same_calls (serves out) Ready (endpoint_streams out l) (length (p ++ b)) (suc (length b)) x b kx (omega (arith, i.least)) (omega arith) in
       let f : served_one (serves out) d (p ++ b) ≡ record { given = m ∷ (served_one (serves out) x b).given; state = (served_one (serves out) x b).state } =
       ap (λ (r : After). and_then (shown r).gives (shown r).state (calls_on (serves out) (length (p ++ b)) (shown r).state (drop (shown r).taken (p ++ b)))) e
-      ∙ ap (λ (y : List ℕ). and_then (some y) x (calls_on (serves out) (length (p ++ b)) x (drop (length p) (p ++ b)))) (take_at m (drop (length m) out) (length m) refl)
-      ∙ ap (λ (y : Served Device (List ℕ)). and_then (some m) x y) rest-calls in
+      ∙ ap (λ (y : List ℕ). and_then (Some y) x (calls_on (serves out) (length (p ++ b)) x (drop (length p) (p ++ b)))) (take_at m (drop (length m) out) (length m) refl)
+      ∙ ap (λ (y : Served Device (List ℕ)). and_then (Some m) x y) rest-calls in
       let g = ih x (record { ready = kx; received = refl }) in
       let s : x.states ≡ next d.states p = same_states d.states (receiver_of d) (made d k) p i in
       subst (Follows d (p ++ b)) (sym f)

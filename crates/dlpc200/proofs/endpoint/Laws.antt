@@ -1,11 +1,13 @@
 -- The receive call: that a device in rule stays in rule, and that neither cutting a stream nor the outputs lent change anything.
-use Rattle.std.proofs.Common.{◌≡◌, ℕ, ◌+◌, ◌-◌, ◌<◌, ◌≤◌, Bool, true, false, cond, ltb, List, [], ◌∷◌, ◌++◌, length, take, drop, sym, refl, ap, ◌∙◌, subst, arith, length-take-le, take_at, ltb-true, le-ltb, lt-ltb}
-use mathlib.Core.Option.{none, some}
+use Rattle.std.proofs.Common.{◌≡◌, ℕ, ◌+◌, ◌-◌, ◌<◌, ◌≤◌, Bool, true, false, cond, List, [], ◌∷◌, ◌++◌, length, take, drop, sym, refl, ap, ◌∙◌, subst, arith, length-take-le, take_at, le-ltb}
+use Rattle.std.specs.Prelude.{None, Some}
+use Rattle.std.proofs.lemmas.Bool.{and_parts}
+use Rattle.std.proofs.lemmas.Bool.Decides.{nat_tests}
 use lib.Seq.{sets, length-sets}
 use Rattle.packet.specs.Packet.{payload_length}
 use Rattle.packet.specs.Receiver.{Receiver as PacketReceiver, Received, running_with, with, missing, waiting as packet_waiting, completed, receiving as packet_receiving, packet_in_rule}
 use Rattle.packet.specs.Writer.{written}
-use Rattle.packet.proofs.Cases.{lt_cases, and_left, and_right, and_both}
+use Rattle.packet.proofs.Cases.{lt_cases}
 use Rattle.packet.proofs.ReceiverLaws.{running_anew, with_nil, hold_length, missing_least, after, cut, behind, waits, completes}
 use Rattle.packet.proofs.Calls.{Streaming, shifted, AnyOutput}
 use Rattle.dlpc200.specs.Packet.{after_cmd4}
@@ -33,18 +35,15 @@ made d k = record { header = k.header; hold = k.hold }
 
 -- the two parts of the rule
 range_of : (d : Device) → in_rule d ≡ true → in_range d.states ≡ true
-range_of d h = and_left (in_range d.states) (packet_in_rule d.header d.received) h
+range_of d h = (and_parts (in_range d.states) (packet_in_rule d.header d.received) h).0
 
 unfinished : (d : Device) → in_rule d ≡ true → d.received < 7 + payload_length d.header
-unfinished d h =
-    ltb-true d.received (7 + payload_length d.header)
-    (unfold packet_in_rule in and_right (in_range d.states) (packet_in_rule d.header d.received) h)
+unfolding packet_in_rule
+unfinished d h = grind (arith, nat_tests)
 
 pub rule_by : (d : Device) → in_range d.states ≡ true → d.received < 7 + payload_length d.header → in_rule d ≡ true
 unfolding packet_in_rule
-rule_by d h l =
-    and_both (in_range d.states) (ltb d.received (7 + payload_length d.header)) h
-    (lt-ltb d.received (7 + payload_length d.header) l)
+rule_by d h l = grind (arith, nat_tests)
 
 -- the device with b received of the current packet
 abbrev pub device_after : Device → List ℕ → Device
@@ -153,20 +152,20 @@ sum_begins d n b out l r h m =
 
 -- The receive call over a stream.
 module _ (out : List ℕ) (l : 64 ≤ length out) where
-  none_waits : (d : Device) (a : List ℕ) → Ready d → (serves out d a).gives ≡ none → length a < missing (receiver_of d) a
+  none_waits : (d : Device) (a : List ℕ) → Ready d → (serves out d a).gives ≡ None → length a < missing (receiver_of d) a
   none_waits d a k g =
       lt_cases (length a) (missing (receiver_of d) a)
       (λ h. h)
       (λ h.
       let e = sym (ap (λ (r : After). (shown r).gives) (call_answers d a out k l h)) ∙ g in
-      let z : ◌≡◌ {A = ℕ} 0 1 = cc in absurd (omega arith))
+      cc)
 
-  some_answers : (d : Device) (a e : List ℕ) → Ready d → (serves out d a).gives ≡ some e → missing (receiver_of d) a ≤ length a
+  some_answers : (d : Device) (a e : List ℕ) → Ready d → (serves out d a).gives ≡ Some e → missing (receiver_of d) a ≤ length a
   some_answers d a e k g =
       lt_cases (length a) (missing (receiver_of d) a)
       (λ h.
       let e = sym (ap (λ (r : After). (shown r).gives) (call_waits d a out k l h)) ∙ g in
-      let z : ◌≡◌ {A = ℕ} 0 1 = cc in absurd (omega arith))
+      cc)
       (λ h. h)
 
   shown_by : (s : States) (n : ℕ) (t : Received) (b : Bool)
@@ -190,10 +189,10 @@ module _ (out : List ℕ) (l : 64 ≤ length out) where
       ∙ ap (λ (t : Received). shown (ended d.states t out)) (behind after_cmd4 (receiver_of d) a b k.header h)
       ∙ sym (ap shown (not_refused d a out k.rule l))
 
-  no_bytes : (d : Device) → Ready d → serves out d [] ≡ record { taken = 0; gives = none; state = d }
+  no_bytes : (d : Device) → Ready d → serves out d [] ≡ record { taken = 0; gives = None; state = d }
   no_bytes d k =
       ap shown (call_waits d [] out k l (omega (arith, missing_least (receiver_of d) [])))
-      ∙ ap (λ (q : PacketReceiver). record { taken = 0; gives = none; state = device_of d.states q }) (with_nil after_cmd4 (receiver_of d))
+      ∙ ap (λ (q : PacketReceiver). record { taken = 0; gives = None; state = device_of d.states q }) (with_nil after_cmd4 (receiver_of d))
 
   count_answers : (d : Device) (a : List ℕ) → Ready d → missing (receiver_of d) a ≤ length a → (serves out d a).taken ≡ missing (receiver_of d) a
   unfolding completed

@@ -1,22 +1,20 @@
--- The numbers that a receive call tells say its answer: no refusal has the number 0, and a response has nine or ten bytes.
-use Rattle.std.proofs.Common.{◌≡◌, ℕ, false, eqb, ltb, ◌⊎◌, List, length, refl, inl, inr}
+-- The numbers that a receive call tells say its answer: no refusal has the number 0, and no response is empty.
+use Rattle.std.proofs.Common.{◌≡◌, ℕ, false, eqb, ltb, List, length, refl, arith, ne_eqb}
 use Rattle.packet.specs.Receiver.{Received}
 use Rattle.packet.proofs.Answering.{Sayable}
 use Rattle.packet.proofs.Cases.{cond_cases}
-use Rattle.dlpc200.specs.Response.{response_type, response}
+use Rattle.dlpc200.specs.Response.{response_type, response_data, response}
 use Rattle.dlpc200.specs.Device.{in_rule, receiving}
 use Rattle.dlpc200.specs.Endpoint.{arrived_in, judged_in, response_in, After, receive_call}
 use Rattle.dlpc200.specs.declared.states.States.{States}
 use Rattle.dlpc200.specs.declared.device.Device.{Device}
-use Rattle.dlpc200.proofs.response.Laws.{response_length}
-
-some_bytes : (n : ℕ) → (n ≡ 9) ⊎ (n ≡ 10) → eqb n 0 ≡ false
-some_bytes n (inl e) = rw e
-some_bytes n (inr e) = rw e
+use Rattle.dlpc200.proofs.response.Laws.{length_packet}
 
 drawn : (s : States) (t : Received) → eqb (length (response_in s t)) 0 ≡ false
 unfolding response_in response
-drawn s t = some_bytes (length (response_in s t)) (response_length s (response_type (arrived_in t).cmd1) (judged_in t))
+drawn s t =
+    let l = length_packet (response_type (arrived_in t).cmd1) (response_data s (judged_in t)) in
+    ne_eqb (length (response_in s t)) 0 (λ e. omega (arith, e, l))
 
 pub answer_sayable : (d : Device) (input out : List ℕ) → Sayable (receive_call d input out).answer
 unfolding receive_call
