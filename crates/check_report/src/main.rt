@@ -9,7 +9,7 @@ ghost use Rattle.packet.specs.Writer.{written};
 ghost use Rattle.report.specs.Report.{verdict};
 ghost use Rattle.report.specs.Line.{line_of};
 
-use report::{LINE, LONGEST, Outcome, check, write_line};
+use report::{Accepted, LINE, LONGEST, Reason, Refusal, check, write_line};
 use std::env::Env;
 use std::io::Read;
 
@@ -17,13 +17,10 @@ use std::io::Read;
 // it is not read.
 const ROOM: usize = LONGEST + 1;
 
-// The refusal that is explained.
-const EXPLAINED: u8 = 18;
-
-// The trial or the refusal, and how long the line of the verdict is.
-#[derive(Drop)]
+// The verdict on a report, and how long its line is.
+#[derive(Clone, Copy)]
 struct Judged {
-    trial: Outcome,
+    answer: Result<Accepted, Refusal>,
     length: usize,
 }
 
@@ -32,49 +29,24 @@ fn judge(out: &mut [u8; LINE], r: &[u8]) -> Judged
     ensures { (result.length ≡ length (line_of (verdict r.now))) × (out.new ≡ written (line_of (verdict r.now)) out.old) }
 {
     let answer = check(r);
-    let trial = answer.trial;
     let length = write_line(out, answer);
-    Judged { trial, length }
-}
-
-fn same(given: &[u8], name: &[u8]) -> bool {
-    if given.len() != name.len() {
-        return false;
-    }
-    for k in 0..name.len() {
-        if given[k] != name[k] {
-            return false;
-        }
-    }
-    true
+    Judged { answer, length }
 }
 
 // Whether the first argument asks for words. A longer one than these 9 bytes does not fit, and is another.
 fn explain_asked(rt: &impl Env) -> bool {
     let mut given = [0u8; 9];
-    let n = rt.arg(1, &mut given).unwrap_or(0);
-    same(&given[..n], b"--explain")
-}
-
-fn explain_refusal(rt: &impl Eprint, r: &[u8], trial: Outcome) {
-    if let Outcome::Refused { number, place } = trial {
-        if number == EXPLAINED {
-            explain::tell(rt, r, place);
-        }
-    }
+    rt.arg(1, &mut given)
+        .is_ok_and(|n| n == given.len() && given == *b"--explain")
 }
 
 // Reads until the buffer is full, the input ends or a read fails: how many bytes it put at the start of
-// the buffer.
+// the buffer. `read_to_end` would do it into a `Vec`, for which memory can run out.
 fn read_full(input: &mut impl Read, buf: &mut [u8]) -> usize
     ensures { result ≤ length buf.new }
 {
     let mut done = 0;
-    while done < buf.len() {
-        let n = input.read(&mut buf[done..]).unwrap_or(0);
-        if n == 0 {
-            break;
-        }
+    while let Ok(n @ 1..) = input.read(&mut buf[done..]) {
         done += n;
     }
     done
@@ -83,12 +55,19 @@ fn read_full(input: &mut impl Read, buf: &mut [u8]) -> usize
 fn main(rt: HostRuntime) {
     let mut input = [0u8; ROOM];
     let given = read_full(&mut rt.stdin(), &mut input);
+    let report = &input[..given];
     let mut line = [0u8; LINE];
-    let judged = judge(&mut line, &input[..given]);
-    let n = judged.length;
-    let _ = rt.write_all(&line[..n]);
-    if explain_asked(&rt) {
-        let trial = judged.trial;
-        explain_refusal(&rt, &input[..given], trial);
+    let judged = judge(&mut line, report);
+    let _ = rt.write_all(&line[..judged.length]);
+    if let Err(
+        Refusal {
+            reason: Reason::ShippingRefused,
+            place,
+        },
+    ) = judged.answer
+    {
+        if explain_asked(&rt) {
+            explain::tell(&rt, report, place);
+        }
     }
 }

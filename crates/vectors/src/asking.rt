@@ -3,13 +3,10 @@
 // told with all that it says; of a carrying out, the response, the standard list of the settings and the
 // open transfer afterwards, and "touched" where something else has changed. A case has its answer behind
 // it, for `tests/differential`; that is not looked at here.
-ghost use Rattle.std.specs.Prelude.{◌≤◌, length};
-
-use crate::fields::{SETTINGS, byte, settings_from, word};
-use crate::said::{Said, further, number, text};
-use crate::same::{same_bytes, same_controller, same_packet};
+use crate::case::Case;
+use crate::said::{hex, number, prefix, text};
 use command::{
-    Asked, CarriedOut, Controller, Encoded, HOLD, JudgementRecord, Kept, Registers, Ruling,
+    CarryOutRefusal, Controller, HOLD, JudgementRecord, Kept, LIST_OUTPUT, Registers, Ruling,
 };
 
 // Room for the longest output, and what its bytes are before the call.
@@ -17,283 +14,188 @@ const ROOM: usize = 2000;
 
 const BLANK: u8 = 0xA5;
 
-// The bytes of a transfer but for the held ones, and of a judgement but for the joined data.
-const TRANSFER: usize = 5;
-
-const RULING: usize = 16;
-
-// The bits of a number that says codes.
-const BITS: u64 = 16;
-
-// The transfer in b: whether it is open, its command, how many bytes are held in two bytes. Of a packet
-// three bytes have come in.
-fn registers(b: &[u8]) -> Registers {
-    let header = [2u8, 1, 3, 7, 8, 9];
-    Registers {
-        received: 3,
-        held: word(b, 3),
-        active: byte(b, 0),
-        cmd1: byte(b, 1),
-        cmd2: byte(b, 2),
-        header,
-        sum: 6,
-    }
-}
-
-// Where data end that are said to be n bytes. No more of them are there than an array has room for.
-fn data_end(from: usize, n: usize, end: usize) -> usize
-    requires { from ≤ end }
-    ensures { (from ≤ result) × (result ≤ end) }
-{
-    further(from, further(0, n, HOLD), end)
-}
-
-// The data that b begins with.
-fn array(b: &[u8], n: usize) -> [u8; HOLD] {
-    let mut a = [0u8; HOLD];
-    let end = data_end(0, n, b.len());
-    packet::store(&mut a, 0, &b[0..end]);
-    a
-}
-
-// The controller of a case: the settings, the transfer and the held bytes.
-fn controller(b: &[u8]) -> Controller {
-    let start = further(0, SETTINGS, b.len());
-    let from = further(start, TRANSFER, b.len());
-    let registers = registers(&b[start..]);
-    let buffer = array(&b[from..], registers.held as usize);
-    let hold = [0x5Au8; HOLD];
+// The settings, and the transfer: whether it is open, its command, how many bytes are held in two bytes,
+// and these. Of a packet three bytes have come in.
+fn controller(case: &mut Case<'_>) -> Controller {
+    let settings = case.settings();
+    let active = case.byte();
+    let cmd1 = case.byte();
+    let cmd2 = case.byte();
+    let held = case.word();
     Controller {
-        settings: settings_from(b, 0),
-        registers,
-        buffer,
-        hold,
+        settings,
+        registers: Registers {
+            received: 3,
+            held,
+            active,
+            cmd1,
+            cmd2,
+            header: [2, 1, 3, 7, 8, 9],
+            sum: 6,
+        },
+        buffer: case.array(usize::from(held)),
+        hold: [0x5A; HOLD],
     }
 }
 
-// Where that ends.
-fn controller_end(b: &[u8]) -> usize
-    ensures { result ≤ length b.now }
-{
-    let start = further(0, SETTINGS, b.len());
-    let from = further(start, TRANSFER, b.len());
-    data_end(from, word(&b[start..], 3) as usize, b.len())
-}
-
-// The numbers of a judgement, in the order of the record.
-fn ruling(b: &[u8]) -> Ruling {
-    let kept = Kept {
-        held: word(b, 10),
-        mode: byte(b, 12),
-        active: byte(b, 13),
-        cmd1: byte(b, 14),
-        cmd2: byte(b, 15),
+// The numbers of a judgement, in the order of the record, and its joined data.
+fn judgement(case: &mut Case<'_>) -> JudgementRecord {
+    let ruling = Ruling {
+        codes: case.word(),
+        accepts: case.word(),
+        wrong: case.word(),
+        count: case.word(),
+        cmd1: case.byte(),
+        cmd2: case.byte(),
+        kept: Kept {
+            held: case.word(),
+            mode: case.byte(),
+            active: case.byte(),
+            cmd1: case.byte(),
+            cmd2: case.byte(),
+        },
     };
-    Ruling {
-        codes: word(b, 0),
-        accepts: word(b, 2),
-        wrong: word(b, 4),
-        count: word(b, 6),
-        cmd1: byte(b, 8),
-        cmd2: byte(b, 9),
-        kept,
+    JudgementRecord {
+        ruling,
+        joined: case.array(usize::from(ruling.count)),
     }
 }
 
-// And its joined data.
-fn judgement(b: &[u8]) -> JudgementRecord {
-    let ruling = ruling(b);
-    let from = further(0, RULING, b.len());
-    let joined = array(&b[from..], ruling.count as usize);
-    JudgementRecord { ruling, joined }
-}
-
-// Where that ends.
-fn judgement_end(b: &[u8]) -> usize
-    ensures { result ≤ length b.now }
-{
-    let from = further(0, RULING, b.len());
-    data_end(from, word(b, 6) as usize, b.len())
-}
-
-// The first n bytes of b.
-fn hex(rt: &impl Print, b: &[u8], n: usize) {
-    if n == 0 {
-        text(rt, b" -");
-        return;
+// Bytes, or that there are none.
+fn bytes(rt: &impl Print, b: &[u8]) {
+    if b.is_empty() {
+        text(rt, " -");
+    } else {
+        hex(rt, " ", b);
     }
-    Said::aloud().bytes(rt, b" ", b, n);
 }
 
-fn cmd(rt: &impl Print, cmd1: u8, cmd2: u8) {
-    let code = [cmd1, cmd2];
-    hex(rt, &code, 2);
-}
-
-// An open transfer: its command and the held bytes.
-fn transfer(rt: &impl Print, active: u8, cmd1: u8, cmd2: u8, held: u16, buffer: &[u8]) {
-    text(rt, b" | transfer");
+// An open transfer, as the record has it: its command and the held bytes.
+fn transfer(rt: &impl Print, active: u8, cmd1: u8, cmd2: u8, held: &[u8]) {
+    text(rt, " | transfer");
     if active == 0 {
-        text(rt, b" -");
+        text(rt, " -");
         return;
     }
-    cmd(rt, cmd1, cmd2);
-    hex(rt, buffer, held as usize);
+    bytes(rt, &[cmd1, cmd2]);
+    bytes(rt, held);
 }
 
-fn accepted(rt: &impl Print, accepts: u16) {
-    if accepts == 0 {
-        text(rt, b"error");
-        return;
+// By the numbers of the record, which may have others.
+fn accepted(accepts: u16) -> &'static str {
+    match accepts {
+        0 => "error",
+        command::HOLDS => "hold",
+        command::WRITES => "write",
+        command::READS => "read",
+        _ => "of no known kind",
     }
-    if accepts == command::HOLDS {
-        text(rt, b"hold");
-        return;
-    }
-    if accepts == command::WRITES {
-        text(rt, b"write");
-        return;
-    }
-    if accepts == command::READS {
-        text(rt, b"read");
-        return;
-    }
-    text(rt, b"of no known kind");
 }
 
 // The codes of which the bits are set.
-fn codes(rt: &impl Print, mut bits: u16) {
-    let said = Said::aloud();
-    for n in 0..BITS {
-        if bits % 2 == 1 {
-            text(rt, b" ");
-            said.hex(rt, n);
+fn codes(rt: &impl Print, bits: u16) {
+    for n in 0..u16::BITS {
+        if bits >> n & 1 == 1 {
+            let _ = print!(rt; " {n:02x}");
         }
-        bits = bits / 2;
     }
 }
 
 fn wrong(rt: &impl Print, w: u16) {
-    if w == command::NO_WRONG_BYTE {
-        text(rt, b" | wrong -");
-        return;
+    match w {
+        command::NO_WRONG_BYTE => text(rt, " | wrong -"),
+        _ => number(rt, " | wrong ", usize::from(w)),
     }
-    number(rt, b" | wrong ", w as usize);
 }
 
 // What the packet draws, what was judged under, and the joined data.
-fn judged(rt: &impl Print, j: JudgementRecord) {
+fn judged(rt: &impl Print, j: &JudgementRecord) {
     let n = j.ruling;
     let kept = n.kept;
-    let joined = j.joined;
-    accepted(rt, n.accepts);
+    text(rt, accepted(n.accepts));
     codes(rt, n.codes);
-    text(rt, b" | cmd");
-    cmd(rt, n.cmd1, n.cmd2);
+    text(rt, " | cmd");
+    bytes(rt, &[n.cmd1, n.cmd2]);
     wrong(rt, n.wrong);
-    number(rt, b" | mode ", kept.mode as usize);
-    transfer(rt, kept.active, kept.cmd1, kept.cmd2, kept.held, &joined);
-    text(rt, b" | joined");
-    hex(rt, &joined, n.count as usize);
+    number(rt, " | mode ", usize::from(kept.mode));
+    let held = prefix(&j.joined, usize::from(kept.held));
+    transfer(rt, kept.active, kept.cmd1, kept.cmd2, held);
+    text(rt, " | joined");
+    bytes(rt, prefix(&j.joined, usize::from(n.count)));
 }
 
-// What a controller makes of a packet.
-fn asked(rt: &impl Print, c: Controller, sent: &[u8]) {
-    let j = command::judge_packet(c, sent);
-    let answer = j.answer;
-    let judgement = j.judgement;
-    match answer {
-        Asked::Judged => judged(rt, judgement),
-        Asked::OutOfRule => text(rt, b"refused 3"),
-        Asked::NotOnePacket => text(rt, b"refused 5"),
+// The controller, the packet's length in four bytes, and the packet: what the controller makes of it.
+pub fn judge(rt: &impl Print, mut case: Case<'_>) {
+    text(rt, ": ");
+    let c = controller(&mut case);
+    let n = case.long() as usize;
+    match command::judge_packet(c, case.bytes(n)) {
+        Ok(j) => judged(rt, &j),
+        Err(refusal) => number(rt, "refused ", refusal as usize),
     }
+    text(rt, "\n");
 }
 
-// The controller, the packet's length in four bytes, and the packet.
-pub fn judge(rt: &impl Print, b: &[u8]) {
-    text(rt, b": ");
-    let start = controller_end(b);
-    let rest = &b[start..];
-    let length = packet::word(byte(rest, 0), byte(rest, 1))
-        + 65536 * packet::word(byte(rest, 2), byte(rest, 3));
-    let from = further(0, 4, rest.len());
-    let end = further(from, length, rest.len());
-    asked(rt, controller(b), &rest[from..end]);
-    text(rt, b"\n");
+// The output is as it was.
+fn blank(out: &[u8]) -> bool {
+    out.iter().all(|byte| *byte == BLANK)
 }
 
-// The number of a refusal; 0 is none.
-fn refusal(a: CarriedOut) -> usize {
-    match a {
-        CarriedOut::Length(_) => 0,
-        CarriedOut::ShortOutput => 1,
-        CarriedOut::OutOfRule => 3,
-        CarriedOut::Forged => 2,
-        CarriedOut::Stale => 4,
-    }
-}
-
-// From this place on, the output is as it was.
-fn blank(out: &[u8], from: usize) -> bool {
-    let before = [BLANK; ROOM];
-    let start = further(0, from, out.len());
-    same_bytes(&out[start..], &before)
+// The packet that is coming in is as it was: a part of the controller, so that no derived equality says it.
+fn same_packet(c: &Controller, after: &Controller) -> bool {
+    let r = c.registers;
+    let s = after.registers;
+    c.hold == after.hold && r.header == s.header && r.received == s.received && r.sum == s.sum
 }
 
 // The response or the refusal; whether all else is as it was.
 fn told(
     rt: &impl Print,
-    c: Controller,
-    after: Controller,
-    a: CarriedOut,
+    c: &Controller,
+    after: &Controller,
+    answer: Result<usize, CarryOutRefusal>,
     out: &[u8; ROOM],
 ) -> bool {
-    match a {
-        CarriedOut::Length(length) => {
-            text(rt, b"written");
-            hex(rt, out, length);
-            same_packet(c, after) & blank(out, length)
+    match answer {
+        Ok(length) => {
+            text(rt, "written");
+            let response = prefix(out, length);
+            bytes(rt, response);
+            same_packet(c, after) && blank(&out[response.len()..])
         }
-        _ => {
-            number(rt, b"refused ", refusal(a));
-            same_controller(c, after) & blank(out, 0)
+        Err(refusal) => {
+            number(rt, "refused ", refusal as usize);
+            c == after && blank(out)
         }
     }
 }
 
 // The settings, by their standard list, and the open transfer.
-fn ended(rt: &impl Print, c: Controller) {
-    let mut list = [0u8; command::LIST_OUTPUT];
-    text(rt, b" | list");
+fn ended(rt: &impl Print, c: &Controller) {
+    let mut list = [0u8; LIST_OUTPUT];
+    text(rt, " | list");
     match command::standard_list(c.settings, &mut list) {
-        Encoded::Length(length) => hex(rt, &list, length),
-        _ => text(rt, b" refused"),
+        Ok(length) => bytes(rt, prefix(&list, length)),
+        Err(_) => text(rt, " refused"),
     }
     let r = c.registers;
-    let buffer = c.buffer;
-    transfer(rt, r.active, r.cmd1, r.cmd2, r.held, &buffer);
+    let held = prefix(&c.buffer, usize::from(r.held));
+    transfer(rt, r.active, r.cmd1, r.cmd2, held);
 }
 
-// What carrying out does to an output of n bytes.
-fn carried(rt: &impl Print, c: Controller, j: JudgementRecord, n: usize) {
+// The controller, the judgement, and the output's length in two bytes: what carrying out does.
+pub fn carry(rt: &impl Print, mut case: Case<'_>) {
+    text(rt, ": ");
+    let c = controller(&mut case);
+    let j = judgement(&mut case);
+    let n = usize::from(case.word()).min(ROOM);
     let mut out = [BLANK; ROOM];
-    let end = further(0, n, ROOM);
-    let s = command::carry_out(c, j, &mut out[0..end]);
-    let answer = s.answer;
-    let after = s.controller;
-    let kept = told(rt, c, after, answer, &out);
-    ended(rt, after);
+    let mut after = c;
+    let answer = after.carry_out(&j, &mut out[..n]);
+    let kept = told(rt, &c, &after, answer, &out);
+    ended(rt, &after);
     if !kept {
-        text(rt, b" | touched");
+        text(rt, " | touched");
     }
-}
-
-// The controller, the judgement, and the output's length in two bytes.
-pub fn carry(rt: &impl Print, b: &[u8]) {
-    text(rt, b": ");
-    let from = controller_end(b);
-    let j = &b[from..];
-    let end = judgement_end(j);
-    carried(rt, controller(b), judgement(j), word(&j[end..], 0) as usize);
-    text(rt, b"\n");
+    text(rt, "\n");
 }

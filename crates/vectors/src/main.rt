@@ -13,20 +13,18 @@
 #![tactic(auto)]
 
 mod asking;
+mod case;
 mod emit;
-mod fields;
 mod guide;
 mod said;
-mod same;
 mod stream;
 
-ghost use Rattle.std.specs.Prelude.{◌≤◌, length};
-
-use report::{Checked, LINE, Outcome};
-use said::{further, number, text};
-use std::fs;
+use case::Case;
+use report::{Accepted, LINE, Refusal};
+use said::{number, prefix, text};
 use std::io::Read;
 use std::rt::Files;
+use std::{fs, io};
 
 // Room for the longest case, and more rows than the file has: nothing says that a file ends.
 const ROOM: usize = 70000;
@@ -34,73 +32,52 @@ const ROOM: usize = 70000;
 const ROWS: usize = 65536;
 
 // The line of the checking program.
-fn line(rt: &impl Print, c: Checked) {
+fn line(rt: &impl Print, answer: Result<Accepted, Refusal>) {
     let mut bytes = [0u8; LINE];
-    let n = report::write_line(&mut bytes, c);
-    text(rt, &bytes[..n]);
+    let n = report::write_line(&mut bytes, answer);
+    let _ = rt.write_all(prefix(&bytes, n));
 }
 
 // And for a yes the end settings.
 fn report(rt: &impl Print, b: &[u8]) {
-    text(rt, b": ");
-    let c = report::check(b);
-    let trial = c.trial;
-    let settings = c.settings;
-    line(rt, c);
-    if let Outcome::Value(_) = trial {
-        emit::ended(rt, settings);
+    text(rt, ": ");
+    let answer = report::check(b);
+    line(rt, answer);
+    if let Ok(yes) = answer {
+        emit::ended(rt, yes.settings);
     }
 }
 
-fn case(rt: &impl Print, kind: u8, b: &[u8]) {
+// The kinds are letters in the file, and told apart here alone: an enum of them would be no plainer.
+fn tell(rt: &impl Print, kind: u8, b: &[u8]) {
     match kind {
         b's' => stream::tell(rt, b),
         b'r' => report(rt, b),
-        b'l' => emit::list(rt, b),
-        b'e' => emit::packet(rt, b),
-        b'g' => guide::tell(rt, b),
-        b'j' => asking::judge(rt, b),
-        b'c' => asking::carry(rt, b),
-        _ => text(rt, b" of no known kind\n"),
+        b'l' => emit::list(rt, Case::new(b)),
+        b'e' => emit::packet(rt, Case::new(b)),
+        b'g' => guide::tell(rt, Case::new(b)),
+        b'j' => asking::judge(rt, Case::new(b)),
+        b'c' => asking::carry(rt, Case::new(b)),
+        _ => text(rt, " of no known kind\n"),
     }
 }
 
-// Reads until the buffer is full, the file ends or a read fails: how many bytes it put at the start of the
-// buffer.
-fn read_full(file: &mut impl Read, b: &mut [u8]) -> usize
-    ensures { result ≤ length b.new }
-{
-    let mut done = 0;
-    while done < b.len() {
-        let n = file.read(&mut b[done..]).unwrap_or(0);
-        if n == 0 {
-            break;
-        }
-        done += n;
-    }
-    done
-}
-
-// Reads and runs a row; false where there is no whole one.
-fn next(rt: &impl Print, file: &mut impl Read, row: usize, b: &mut [u8]) -> bool {
+// Reads and runs a row. Where there is no whole one, that is the error.
+fn next(rt: &impl Print, file: &mut impl Read, row: usize, room: &mut [u8]) -> io::Result<()> {
     let mut head = [0u8; 5];
-    if read_full(file, &mut head) < 5 {
-        return false;
-    }
-    let length = packet::word(head[1], head[2]) + 65536 * packet::word(head[3], head[4]);
-    let n = further(0, length, b.len());
-    if read_full(file, &mut b[0..n]) < n {
-        return false;
-    }
-    number(rt, b"case ", row);
-    case(rt, head[0], &b[0..n]);
-    true
+    file.read_exact(&mut head)?;
+    let [kind, a, b, c, d] = head;
+    let n = (u32::from_le_bytes([a, b, c, d]) as usize).min(room.len());
+    file.read_exact(&mut room[..n])?;
+    number(rt, "case ", row);
+    tell(rt, kind, &room[..n]);
+    Ok(())
 }
 
 fn rows(rt: &impl Print, file: &mut impl Read) {
-    let mut b = [0u8; ROOM];
+    let mut room = [0u8; ROOM];
     for row in 1..ROWS {
-        if !next(rt, file, row, &mut b) {
+        if next(rt, file, row, &mut room).is_err() {
             break;
         }
     }
@@ -108,18 +85,16 @@ fn rows(rt: &impl Print, file: &mut impl Read) {
 
 // A file that cannot be opened has no rows.
 fn file(rt: &(impl Files + Print), name: &str) {
-    text(rt, b"file ");
-    text(rt, name.as_bytes());
-    text(rt, b"\n");
+    text(rt, "file ");
+    text(rt, name);
+    text(rt, "\n");
     if let Ok(mut opened) = fs::open(rt, name) {
         rows(rt, &mut opened);
     }
 }
 
 fn main(rt: HostRuntime) {
-    file(&rt, "01");
-    file(&rt, "02");
-    file(&rt, "03");
-    file(&rt, "04");
-    file(&rt, "05");
+    for name in ["01", "02", "03", "04", "05"] {
+        file(&rt, name);
+    }
 }

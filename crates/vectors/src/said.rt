@@ -1,96 +1,89 @@
 // What is printed, and the digest of what the runs of a case say.
-ghost use Rattle.std.specs.Prelude.{◌+◌, ◌≤◌};
+ghost use Rattle.std.specs.Prelude.{◌≤◌, length};
 
-use command::WrongByte;
-
-// That it cannot be written is no reason to stop.
-pub fn text(rt: &impl Print, t: &[u8]) {
-    let _ = rt.write_all(t);
+// That it cannot be written is no reason to stop. (check_report has the same over `Eprint`.)
+pub fn text(rt: &impl Print, words: &str) {
+    let _ = rt.print(words);
 }
 
-pub fn number(rt: &impl Print, name: &[u8], n: usize) {
+pub fn number(rt: &impl Print, name: &str, n: usize) {
+    let _ = print!(rt; "{name}{n}");
+}
+
+// Bytes after their name.
+pub fn hex(rt: &impl Print, name: &str, bytes: &[u8]) {
     text(rt, name);
-    let _ = rt.print(n);
+    for byte in bytes {
+        let _ = print!(rt; "{byte:02x}");
+    }
 }
 
-// The place that is so many bytes further on, or the end.
-pub fn further(at: usize, more: usize, end: usize) -> usize
-    requires { at ≤ end }
-    ensures { (at ≤ result) × (result ≤ end) × (result ≤ at + more) }
+// The first n bytes, or as many as there are.
+pub fn prefix(bytes: &[u8], n: usize) -> &[u8]
+    ensures { length result.now ≤ length bytes.now }
 {
-    if end - at < more { end } else { at + more }
+    bytes.get(..n).unwrap_or(bytes)
 }
 
 const PRIME: u64 = 4294967291;
 
+// What of the runs is printed: the wrong bytes stand in a line of their own.
+#[derive(Clone, Copy, PartialEq, Eq)]
+pub enum Aloud {
+    AllButWrongBytes,
+    WrongBytes,
+    Nothing,
+}
+
 // What runs say is digits of one number to the base 256. The digest is its remainder by the largest
-// prime below 2^32: where one byte differs, so does the digest. What is said aloud is printed too; the
-// wrong bytes stand in a line of their own, and are printed without the rest.
-#[derive(Clone, Copy)]
-pub struct Said {
-    pub aloud: bool,
-    pub wrong_aloud: bool,
+// prime below 2^32: where one byte differs, so does the digest.
+#[derive(Drop)]
+pub struct Said<'a, P: Print> {
+    rt: &'a P,
+    pub aloud: Aloud,
     pub digest: u32,
 }
 
-impl Said {
-    // Nothing so far, and all that is to come is printed, but for the wrong bytes.
-    pub fn aloud() -> Said {
+impl<'a, P: Print> Said<'a, P> {
+    // Nothing so far.
+    pub fn new(rt: &'a P, aloud: Aloud) -> Said<'a, P> {
         Said {
-            aloud: true,
-            wrong_aloud: false,
+            rt,
+            aloud,
             digest: 0,
         }
     }
 
-    // Nothing so far, and the wrong bytes alone are printed.
-    pub fn wrong_aloud() -> Said {
-        Said {
-            aloud: false,
-            wrong_aloud: true,
-            digest: 0,
-        }
+    fn digit(&mut self, n: u32) {
+        self.digest = ((u64::from(self.digest) * 256 + u64::from(n)) % PRIME) as u32;
     }
 
-    fn digit(mut self, n: u64) -> Said {
-        self.digest = ((self.digest as u64 * 256 + n % PRIME) % PRIME) as u32;
-        self
+    // A number after its name.
+    pub fn number(&mut self, name: &str, n: u32) {
+        if self.aloud == Aloud::AllButWrongBytes {
+            let _ = print!(self.rt; "{name}{n:02x}");
+        }
+        self.digit(n);
     }
 
-    pub fn hex(self, rt: &impl Print, n: u64) -> Said {
-        if self.aloud {
-            let _ = print!(rt; "{n:02x}");
+    // Bytes after their name.
+    pub fn bytes(&mut self, name: &str, bytes: &[u8]) {
+        if self.aloud == Aloud::AllButWrongBytes {
+            hex(self.rt, name, bytes);
         }
-        self.digit(n)
+        for byte in bytes {
+            self.digit(u32::from(*byte));
+        }
     }
 
     // The wrong byte of a packet. The digit is one more, and 0 where there is none.
-    pub fn wrong(self, rt: &impl Print, w: WrongByte) -> Said {
-        match w {
-            WrongByte::At(n) => {
-                if self.wrong_aloud {
-                    number(rt, b" ", n as usize);
-                }
-                self.digit(n as u64 + 1)
-            }
-            WrongByte::Nothing => {
-                if self.wrong_aloud {
-                    text(rt, b" -");
-                }
-                self.digit(0)
+    pub fn wrong(&mut self, wrong: Option<u8>) {
+        if self.aloud == Aloud::WrongBytes {
+            match wrong {
+                Some(n) => number(self.rt, " ", usize::from(n)),
+                None => text(self.rt, " -"),
             }
         }
-    }
-
-    // The first n bytes of b, after their name.
-    pub fn bytes(mut self, rt: &impl Print, name: &[u8], b: &[u8], n: usize) -> Said {
-        if self.aloud {
-            text(rt, name);
-        }
-        let end = further(0, n, b.len());
-        for i in 0..end {
-            self = self.hex(rt, b[i] as u64);
-        }
-        self
+        self.digit(wrong.map_or(0, |n| u32::from(n) + 1));
     }
 }

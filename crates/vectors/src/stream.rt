@@ -4,146 +4,123 @@
 // whether all agree. A row of the guide asks for the responses and the wrong bytes alone.
 ghost use Rattle.std.specs.Prelude.{◌≤◌, length};
 
-use crate::said::{Said, further, number, text};
-use command::{Controller, WrongByte};
-use packet::{Answer, Next};
+use crate::said::{Aloud, Said, number, prefix, text};
+use command::{Controller, LIST_OUTPUT, OUTPUT};
+use packet::{Progress, next_packet};
 
 // The last place at which a stream is cut. With all, the work would grow with its length's square.
 const PLACES: usize = 1700;
 
+// The place goes on by hand, as `next_packet` wants it.
 fn sizes(rt: &impl Print, b: &[u8]) {
-    let mut at: usize = 0;
-    for _ in 0..b.len() {
-        let Next::Packet { size, right: _ } = packet::next_packet(b, at) else {
-            return;
-        };
-        number(rt, b" ", size);
-        at = at.wrapping_add(size);
+    let mut at = 0;
+    while let Some(packet) = next_packet(b, at) {
+        number(rt, " ", packet.size);
+        at += packet.size;
     }
 }
 
-fn taken_by(a: Answer) -> usize {
-    match a {
-        Answer::Waiting(taken) => taken,
-        Answer::Answered { taken, length: _ } => taken,
-        _ => 0,
-    }
-}
-
-// The response and the wrong byte beside it. A call that completes no packet has neither; a wrong byte
-// that it told all the same would be one too many.
-fn respond(rt: &impl Print, said: Said, a: Answer, wrong: WrongByte, out: &[u8]) -> Said {
-    if let Answer::Answered { taken: _, length } = a {
-        return said.bytes(rt, b" ", out, length).wrong(rt, wrong);
-    }
-    match wrong {
-        WrongByte::At(_) => said.wrong(rt, wrong),
-        WrongByte::Nothing => said,
-    }
-}
-
-// The data of an open transfer stands at the start of its buffer.
-fn transfer(rt: &impl Print, said: Said, r: command::Registers, buffer: &[u8]) -> Said {
-    if r.active == 0 {
-        return said;
-    }
-    let code = [r.cmd1, r.cmd2];
-    said.bytes(rt, b"\ntransfer ", &code, 2)
-        .bytes(rt, b" ", buffer, r.held as usize)
-}
-
-fn finish(rt: &impl Print, said: Said, c: Controller) -> Said {
-    let unfinished = said.bytes(rt, b"\nunfinished ", b"", 0);
-    let registers = c.registers;
-    let buffer = c.buffer;
-    let received = unfinished.hex(rt, registers.received as u64);
-    let told = transfer(rt, received, registers, &buffer);
-    let mut list = [0u8; command::LIST_OUTPUT];
-    match command::standard_list(c.settings, &mut list) {
-        command::Encoded::Length(length) => told.bytes(rt, b"\nlist ", &list, length),
-        _ => told,
-    }
-}
-
-// Where a piece of n bytes ends that are cut after the first `cut`, and from there on by this size.
-fn piece_end(at: usize, cut: usize, size: usize, n: usize) -> usize
-    requires { (at ≤ n) × (cut ≤ n) }
-    ensures { (at ≤ result) × (result ≤ n) }
+// One call: how many bytes it took. The response is said, and the wrong byte beside it. A call that
+// completes no packet has neither; a wrong byte that it told all the same would be one too many.
+fn call<P: Print>(said: &mut Said<'_, P>, head: &mut Controller, input: &[u8]) -> usize
+    ensures { result ≤ length input.now }
 {
-    if at < cut { cut } else { further(at, size, n) }
+    let mut out = [0u8; OUTPUT];
+    let reply = head.receive(input, &mut out);
+    if let Ok(Progress::Answered { length, .. }) = reply.answer {
+        said.bytes(" ", prefix(&out, length));
+        said.wrong(reply.wrong);
+    } else if reply.wrong.is_some() {
+        said.wrong(reply.wrong);
+    }
+    let taken = match reply.answer {
+        Ok(Progress::Waiting(taken) | Progress::Answered { taken, .. }) => taken,
+        Err(_) => 0,
+    };
+    taken.min(input.len())
 }
 
-// What has been said once all is fed, and the controller as it is then.
-#[derive(Drop)]
-struct Fed {
-    said: Said,
-    controller: Controller,
-}
-
-// Feeds b in such pieces. The last call takes nothing: at the end of b it is lent no bytes.
-fn feed(rt: &impl Print, mut said: Said, b: &[u8], cut: usize, size: usize) -> Fed
-    requires { cut ≤ length b.now }
-{
-    let mut c = Controller::fresh();
-    let mut at: usize = 0;
+// Feeds the head a piece, call after call. The last call takes nothing: at the end it is lent no bytes.
+fn feed<P: Print>(said: &mut Said<'_, P>, head: &mut Controller, piece: &[u8]) {
+    let mut rest = piece;
     loop {
-        let mut out = [0u8; command::OUTPUT];
-        let end = piece_end(at, cut, size, b.len());
-        let s = command::receive(c, &b[at..end], &mut out);
-        c = s.controller;
-        let answer = s.answer;
-        let wrong = s.wrong;
-        said = respond(rt, said, answer, wrong, &out);
-        let next = further(at, taken_by(answer), end);
-        if next == at {
-            return Fed {
-                said,
-                controller: c,
-            };
+        let taken = call(said, head, rest);
+        if taken == 0 {
+            return;
         }
-        at = next;
+        rest = &rest[taken..];
     }
 }
 
-fn run(rt: &impl Print, said: Said, b: &[u8], cut: usize, size: usize) -> Said
-    requires { cut ≤ length b.now }
-{
-    let fed = feed(rt, said, b, cut, size);
-    let c = fed.controller;
-    finish(rt, fed.said, c)
+// How the head stands at the end of the stream.
+fn finish<P: Print>(said: &mut Said<'_, P>, head: &Controller) {
+    let registers = head.registers;
+    said.number("\nunfinished ", registers.received);
+    // The data of an open transfer stands at the start of its buffer.
+    if registers.active != 0 {
+        said.bytes("\ntransfer ", &[registers.cmd1, registers.cmd2]);
+        said.bytes(" ", prefix(&head.buffer, usize::from(registers.held)));
+    }
+    let mut list = [0u8; LIST_OUTPUT];
+    if let Ok(length) = command::standard_list(head.settings, &mut list) {
+        said.bytes("\nlist ", prefix(&list, length));
+    }
+}
+
+// A run byte by byte. It and the next differ in their pieces, and are as short as one over an iterator of them.
+fn run_by_byte<P: Print>(said: &mut Said<'_, P>, b: &[u8]) {
+    let mut head = Controller::fresh();
+    for byte in b.chunks(1) {
+        feed(said, &mut head, byte);
+    }
+    finish(said, &head);
+}
+
+// A run that is cut in two.
+fn run_cut<P: Print>(said: &mut Said<'_, P>, start: &[u8], end: &[u8]) {
+    let mut head = Controller::fresh();
+    feed(said, &mut head, start);
+    feed(said, &mut head, end);
+    finish(said, &head);
 }
 
 // The runs: byte by byte and aloud, then cut at each place. Cut at place 0, b is whole.
 fn runs(rt: &impl Print, b: &[u8]) -> u32 {
-    let mut said = run(rt, Said::aloud(), b, 0, 1);
-    said.aloud = false;
-    let cuts = further(0, PLACES, b.len()) + 1;
-    for k in 0..cuts {
-        said = run(rt, said, b, k, b.len());
+    let mut said = Said::new(rt, Aloud::AllButWrongBytes);
+    run_by_byte(&mut said, b);
+    said.aloud = Aloud::Nothing;
+    for place in 0..=b.len().min(PLACES) {
+        let (start, end) = b.split_at(place);
+        run_cut(&mut said, start, end);
     }
     said.digest
 }
 
+fn feed_whole(rt: &impl Print, aloud: Aloud, b: &[u8]) {
+    feed(&mut Said::new(rt, aloud), &mut Controller::fresh(), b);
+}
+
 // The responses to a stream that is given whole.
 pub fn responses(rt: &impl Print, b: &[u8]) {
-    if b.len() == 0 {
-        text(rt, b" -");
+    if b.is_empty() {
+        text(rt, " -");
         return;
     }
-    feed(rt, Said::aloud(), b, 0, b.len());
+    feed_whole(rt, Aloud::AllButWrongBytes, b);
 }
 
 // The wrong byte of each packet of such a stream.
 pub fn wrong_bytes(rt: &impl Print, b: &[u8]) {
-    feed(rt, Said::wrong_aloud(), b, 0, b.len());
+    feed_whole(rt, Aloud::WrongBytes, b);
 }
 
 pub fn tell(rt: &impl Print, b: &[u8]) {
-    text(rt, b": packets");
+    text(rt, ": packets");
     sizes(rt, b);
-    text(rt, b"\nwrong");
+    text(rt, "\nwrong");
     wrong_bytes(rt, b);
-    text(rt, b"\nresponses");
-    number(rt, b"\ndigest ", runs(rt, b) as usize);
-    text(rt, b"\n");
+    text(rt, "\nresponses");
+    let digest = runs(rt, b);
+    number(rt, "\ndigest ", digest as usize);
+    text(rt, "\n");
 }

@@ -1,6 +1,6 @@
--- What is left of the bytes that were read lies within the buffer.
-use Rattle.std.proofs.Common.{◌≡◌, ◌≤◌, length}
+-- Each call takes a byte.
+use Rattle.std.proofs.Common.{length}
 use Rattle.head_sim.proofs.main.Given as goal
 
-abbrev pub invariant-loop : goal.invariant-loop
-invariant-loop l = (length l.buf ≡ 4096) × (l.at ≤ l.end) × (l.end ≤ 4096)
+abbrev pub decreases-loop-left : goal.decreases-loop-left
+decreases-loop-left l = length l.left

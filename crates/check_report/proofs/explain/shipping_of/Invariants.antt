@@ -1,9 +1,9 @@
--- The place is within the report, and each turn passes a record's header.
-use Rattle.std.proofs.Common.{◌≤◌, ◌-◌, length}
+-- What is left is a part of the report, and each turn passes a record's header.
+use Rattle.std.proofs.Common.{◌≤◌, length}
 use Rattle.check_report.proofs.explain.shipping_of.Given as goal
 
-abbrev pub invariant-loop-at : goal.invariant-loop-at
-invariant-loop-at l = l.at ≤ length l.r
+abbrev pub invariant-loop-header : goal.invariant-loop-header
+invariant-loop-header l = length l.rest ≤ length l.r
 
-abbrev pub decreases-loop-at : goal.decreases-loop-at
-decreases-loop-at l = length l.r - l.at
+abbrev pub decreases-loop-header : goal.decreases-loop-header
+decreases-loop-header l = length l.rest

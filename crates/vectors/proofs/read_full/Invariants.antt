@@ -1,9 +1,0 @@
--- What has been read lies within the buffer, and each turn brings more.
-use Rattle.std.proofs.Common.{◌≤◌, ◌-◌, length}
-use Rattle.vectors.proofs.read_full.Given as goal
-
-abbrev pub invariant-loop-done : goal.invariant-loop-done
-invariant-loop-done g l = l.done ≤ length l.b
-
-abbrev pub decreases-loop-done : goal.decreases-loop-done
-decreases-loop-done g l = length l.b - l.done
