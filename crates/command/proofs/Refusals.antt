@@ -1,4 +1,5 @@
 -- When the calls refuse: the tests are the lines of document 01's table, and a refusal touches nothing lent.
+use Rattle.std.specs.Prelude.{is_some}
 use Prim.Native.Nat.{ℕ, ◌+◌}
 use mathlib.Core.Path.{◌≡◌, refl, ap, sym, ◌∙◌}
 use mathlib.Core.Logic.{◌↔◌}
@@ -13,7 +14,7 @@ use Rattle.packet.specs.Answer.{Refuses, Waits, Answers, Answering}
 use Rattle.packet.specs.Receiver.{packet_in_rule}
 use Rattle.packet.proofs.Answering.{answering, refusal_number, answers_not_refused, waits_not_refused, all_taken}
 use Rattle.packet.proofs.Cases.{bool_cases, cond_cases, and_left, and_right, or_left, or_right, and_cases, never}
-use Rattle.command.specs.Table.{table, command_of, is_known}
+use Rattle.command.specs.Table.{table, command_of}
 use Rattle.command.specs.Settings.{values_of}
 use Rattle.command.specs.Rules.{allowed, blocked, all_allowed, settings_in_rule}
 use Rattle.command.specs.Value.{command_in, values_in}
@@ -60,7 +61,7 @@ controller_out c = (forth, back)
         unfold parts_in_rule transfer_in_rule packet_in_rule in
         let t = transfer_of c.registers in
         let room = 7 + payload_length c.registers.header in
-        let unknown = eqb t.active 0 || is_known (command_of t.cmd1 t.cmd2) in
+        let unknown = eqb t.active 0 || is_some (command_of t.cmd1 t.cmd2) in
         and_cases (settings_in_rule c.settings && (leb t.held 1024 && unknown)) (ltb c.registers.received room)
         (and_cases (settings_in_rule c.settings) (leb t.held 1024 && unknown)
         (λ n. BadSettings ((settings_out c.settings).0 n))
@@ -68,7 +69,7 @@ controller_out c = (forth, back)
         (λ n. HeldTooLong (leb-false t.held 1024 n))
         (λ n.
         OpenForUnknown (eqb-false t.active 0 (or_left (eqb t.active 0) _ n))
-        (λ d k. never (sym (or_right (eqb t.active 0) _ n) ∙ ap is_known (named t.cmd1 t.cmd2 d k))))))
+        (λ d k. never (sym (or_right (eqb t.active 0) _ n) ∙ ap is_some (named t.cmd1 t.cmd2 d k))))))
         (λ n. HasAllBytes (ltb-false c.registers.received room n))
         h
 

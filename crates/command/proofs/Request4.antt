@@ -23,16 +23,16 @@ use Rattle.command.specs.Response.{wrong_in, response}
 use Rattle.command.specs.Player.{judged}
 use Rattle.command.specs.Controller.{state_of, in_rule}
 use Rattle.command.specs.Endpoint.{taken_by, arrived_in, judged_in, response_in, After, answered, receive_call}
-use Rattle.command.specs.Sending.{Reply}
+use Rattle.command.specs.Sending.{Given}
 use Rattle.command.specs.Demand1.{joined_data, Draws}
-use Rattle.command.specs.Request4.{starts_from, FirstNotAllowed, named, tied, field_at, Depth, Count, Inversion, Trigger, NamedIn, Draws03, Request4}
+use Rattle.command.specs.Request4.{starts_from, FirstNotAllowed, tied, field_at, Depth, Count, Inversion, Trigger, NamedIn, Draws03, Request4}
 use Rattle.command.specs.declared.table.Command.{Command}
 use Rattle.command.specs.declared.table.Command.TheVariants.{DisplayMode, TestPattern, LedCurrent, StaticColour, DisplaySetting, VideoInput, VideoMode, PatternSequence, SequenceRun}
 use Rattle.command.specs.declared.judgement.Judgement.{Judgement}
 use Rattle.command.specs.declared.controller.Controller.{Controller}
 use Rattle.command.proofs.table.Laws.{each, known_code, same_known}
 use Rattle.command.proofs.rules.Laws.{nothing_wrong}
-use Rattle.command.proofs.faults.Laws.{named as found-named}
+use Rattle.command.proofs.faults.Laws.{named}
 use Rattle.command.proofs.judgement.Laws.{judge_cases}
 use Rattle.command.proofs.judgement.Called.{IsError, exactly_called}
 use Rattle.command.proofs.endpoint.Laws.{replies_anyhow}
@@ -128,20 +128,20 @@ module _ (depth : ℕ) where
     or_cases (not (eqb n 6)) (eqb depth 1) (λ z. inl (eqb-false n 6 (not-true _ z))) (λ o. inr (eqb-true depth 1 o)) (and_right (leb n 6) _ h),
   )
 
-  depth_wrong : (others : List ℕ) → (Depth depth → ⊥) → named PatternSequence (depth ∷ others) ≡ Some 0
+  depth_wrong : (others : List ℕ) → (Depth depth → ⊥) → wrong_byte PatternSequence (depth ∷ others) ≡ Some 0
   depth_wrong others h = rw (fails (within 1 8 depth) (is_inside 1 8 depth) h)
 
   module _ (count : ℕ) (d : Depth depth) where
-    count_wrong : (others : List ℕ) → (Count depth count → ⊥) → named PatternSequence (depth ∷ count ∷ others) ≡ Some 1
+    count_wrong : (others : List ℕ) → (Count depth count → ⊥) → wrong_byte PatternSequence (depth ∷ count ∷ others) ≡ Some 1
     count_wrong others h = rw (inside 1 8 depth d, fails (within 1 (most_patterns depth) count) (is_inside 1 (most_patterns depth) count) h)
 
     module _ (inversion : ℕ) (c : Count depth count) where
-      inversion_wrong : (others : List ℕ) → (Inversion depth inversion → ⊥) → named PatternSequence (depth ∷ count ∷ inversion ∷ others) ≡ Some 2
+      inversion_wrong : (others : List ℕ) → (Inversion depth inversion → ⊥) → wrong_byte PatternSequence (depth ∷ count ∷ inversion ∷ others) ≡ Some 2
       inversion_wrong others h =
           rw (inside 1 8 depth d, inside 1 (most_patterns depth) count c, fails (leb inversion 2 && (eqb inversion 0 || eqb depth 1)) (is_inversion inversion) h)
 
       trigger_wrong : (trigger : ℕ) (others : List ℕ) → Inversion depth inversion → (Trigger depth trigger → ⊥)
-          → named PatternSequence (depth ∷ count ∷ inversion ∷ trigger ∷ others) ≡ Some 3
+          → wrong_byte PatternSequence (depth ∷ count ∷ inversion ∷ trigger ∷ others) ≡ Some 3
       trigger_wrong trigger others i h =
           rw (
             inside 1 8 depth d,
@@ -270,7 +270,7 @@ module _ (mode : ℕ) (t : Transfer) (p : Arrived) where
         ),
     λ h.
         let f = faulty ((exactly_called mode t p (0x03 ∷ [])).1 h.0) in
-        let c : h.1.command ≡ f.command = same_known _ _ (sym (found-named p.cmd1 p.cmd2 h.1.command h.1.names) ∙ f.names) in
+        let c : h.1.command ≡ f.command = same_known _ _ (sym (named p.cmd1 p.cmd2 h.1.command h.1.names) ∙ f.names) in
         f.wrong ∙ named_first _ n (rw c at h.1.first),
   )
 
@@ -357,7 +357,7 @@ request_4 =
       exactly = reported_exactly;
       reports = reported;
       streams = wrong_played;
-      cut = λ c b s t k. ap (λ (r : Served Controller Reply). map (λ (x : Reply). x.wrong) r.given) (replies_anyhow c b s t k);
+      cut = λ c b s t k. ap (λ (r : Served Controller Given). map (λ (x : Given). x.wrong) r.given) (replies_anyhow c b s t k);
       beside = λ s p w x. unfold response codes_of in refl;
       offends = λ s b n k. rw k (earliest_named s b n);
       clean = λ s b k. rw k (none_named s b);

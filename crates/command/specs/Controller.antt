@@ -1,9 +1,9 @@
 -- The controller: its transfer and its receiver by the controller's numbers, when it is in rule, and a fresh one. Every controller means something, whatever its numbers are.
-use Rattle.std.specs.Prelude.{Option, None, Some, ℕ, ◌+◌, Bool, cond, ◌&&◌, ◌||◌, List, eqb, leb, length, take, replicate}
+use Rattle.std.specs.Prelude.{Option, None, Some, ℕ, ◌+◌, Bool, cond, ◌&&◌, ◌||◌, List, eqb, leb, length, take, replicate, is_some}
 use Rattle.std.proofs.lemmas.List.Edits.{sets}
 use Rattle.packet.specs.Packet.{type_of, cmd1_of, cmd2_of, flags_of, payload_length}
 use Rattle.packet.specs.Receiver.{Receiver, packet_in_rule}
-use Rattle.command.specs.Table.{cmd1_for, cmd2_for, command_of, is_known}
+use Rattle.command.specs.Table.{cmd1_for, cmd2_for, command_of}
 use Rattle.command.specs.Settings.{factory}
 use Rattle.command.specs.Rules.{settings_in_rule}
 use Rattle.command.specs.Transfer.{Transfer, Closed, Opened}
@@ -78,7 +78,7 @@ buffer_after t buffer body (Read c) = buffer
 -- the table, nor a half-received packet that already has all its bytes.
 
 unfoldable pub transfer_in_rule : TransferState → Bool
-transfer_in_rule t = leb t.held 1024 && (eqb t.active 0 || is_known (command_of t.cmd1 t.cmd2))
+transfer_in_rule t = leb t.held 1024 && (eqb t.active 0 || is_some (command_of t.cmd1 t.cmd2))
 
 unfoldable pub parts_in_rule : Settings → Registers → Bool
 parts_in_rule s r = settings_in_rule s && transfer_in_rule (transfer_of r) && packet_in_rule r.header r.received

@@ -1,7 +1,7 @@
 -- The first group of faults of a complete packet, the codes that come alone, and the bytes that report them. Codes have the names that source document 002 gives them.
-use Rattle.std.specs.Prelude.{Option, None, ℕ, ◌+◌, Bool, true, false, cond, not, ◌&&◌, ◌||◌, List, [], ◌∷◌, eqb, ltb, length}
+use Rattle.std.specs.Prelude.{Option, None, ℕ, ◌+◌, Bool, true, false, cond, not, ◌&&◌, ◌||◌, List, [], ◌∷◌, eqb, ltb, length, is_some}
 use Rattle.packet.specs.Packet.{type_of, cmd1_of, cmd2_of, flags_of, payload_length, payload, right_sum, host_write, host_read, whole, beginning, intermediate, last}
-use Rattle.command.specs.Table.{is_known, can_read}
+use Rattle.command.specs.Table.{can_read}
 use Rattle.command.specs.Transfer.{Transfer, is_open, held, open_for}
 use Rattle.command.specs.declared.faults.Codes.{Codes}
 use Rattle.command.specs.declared.table.Command.{Command}
@@ -37,7 +37,7 @@ continues f = eqb f intermediate || eqb f last
 
 -- 02: type neither 02 nor 04, or command not in the table, or a read of 01 06
 unfoldable pub wrong_command : Option Command → ℕ → Bool
-wrong_command c type = not (eqb type host_write || eqb type host_read) || not (is_known c) || (eqb type host_read && not (can_read c))
+wrong_command c type = not (eqb type host_write || eqb type host_read) || not (is_some c) || (eqb type host_read && not (can_read c))
 
 -- 04: payload length over 1,024; or flags 02 or 03 with a transfer open and held bytes plus this payload over 1,024
 unfoldable pub too_long : Bool → ℕ → ℕ → ℕ → Bool

@@ -38,10 +38,6 @@ pub record FirstNotAllowed (fs : List Field) (n : ℕ) : Type 0 where
   pub fails : wrong.valid ≡ false
   pub byte : wrong.byte ≡ n
 
--- the byte that is named in these values of a command, or none
-abbrev pub named : Command → List ℕ → Option ℕ
-named c v = wrong_byte c v
-
 -- the fields, by their number from 0, that a rule ties to an earlier one: Y to X; count, inversion and trigger to the depth
 abbrev pub tied : Command → ℕ → Bool
 tied c i = (same c VideoInput && eqb i 1) || (same c PatternSequence && within 1 3 i)
@@ -82,23 +78,23 @@ pub record Request4 : Type 0 where
   -- the fields of a command begin where its layout has them
   pub fields : (c : Command) (v : List ℕ) → map (λ (f : Field). f.byte) (fields_of c v) ≡ starts_from 0 (layout c)
   -- a byte is named exactly when the values are not allowed,
-  pub names : (c : Command) (v : List ℕ) → (named c v ≡ None) ↔ (allowed c v ≡ true)
+  pub names : (c : Command) (v : List ℕ) → (wrong_byte c v ≡ None) ↔ (allowed c v ≡ true)
   -- and it is the first of the first field not allowed
-  pub first : (c : Command) (v : List ℕ) (n : ℕ) → (named c v ≡ Some n) ↔ FirstNotAllowed (fields_of c v) n
+  pub first : (c : Command) (v : List ℕ) (n : ℕ) → (wrong_byte c v ≡ Some n) ↔ FirstNotAllowed (fields_of c v) n
   -- a field that no rule ties to another is judged by its own value alone
   pub own : (c : Command) (v w : List ℕ) (i : ℕ) → tied c i ≡ false → get_or v i 0 ≡ get_or w i 0 → field_at c v i ≡ field_at c w i
   -- "a rule between two fields counts against the later one": no field is judged by a value behind it;
   pub later : (c : Command) (v w : List ℕ) (k : ℕ) → take k v ≡ take k w → take k (fields_of c v) ≡ take k (fields_of c w)
   -- X and Y that are no listed pair are named at Y, whatever X is;
-  pub pair : (x y : ℕ) (others : List ℕ) → listed x y pairs ≡ false → named VideoInput (x ∷ y ∷ others) ≡ Some 2
+  pub pair : (x y : ℕ) (others : List ℕ) → listed x y pairs ≡ false → wrong_byte VideoInput (x ∷ y ∷ others) ≡ Some 2
   -- of 04 00 the depth at its own byte, whatever the others are; then count, inversion and trigger at theirs
-  pub depth : (depth : ℕ) (others : List ℕ) → (Depth depth → ⊥) → named PatternSequence (depth ∷ others) ≡ Some 0
-  pub count : (depth count : ℕ) (others : List ℕ) → Depth depth → (Count depth count → ⊥) → named PatternSequence (depth ∷ count ∷ others) ≡ Some 1
+  pub depth : (depth : ℕ) (others : List ℕ) → (Depth depth → ⊥) → wrong_byte PatternSequence (depth ∷ others) ≡ Some 0
+  pub count : (depth count : ℕ) (others : List ℕ) → Depth depth → (Count depth count → ⊥) → wrong_byte PatternSequence (depth ∷ count ∷ others) ≡ Some 1
   pub inversion : (depth count inversion : ℕ) (others : List ℕ) → Depth depth → Count depth count → (Inversion depth inversion → ⊥)
-      → named PatternSequence (depth ∷ count ∷ inversion ∷ others) ≡ Some 2
+      → wrong_byte PatternSequence (depth ∷ count ∷ inversion ∷ others) ≡ Some 2
   pub trigger : (depth count inversion trigger : ℕ) (others : List ℕ) → Depth depth → Count depth count → Inversion depth inversion
       → (Trigger depth trigger → ⊥)
-      → named PatternSequence (depth ∷ count ∷ inversion ∷ trigger ∷ others) ≡ Some 3
+      → wrong_byte PatternSequence (depth ∷ count ∷ inversion ∷ trigger ∷ others) ≡ Some 3
   -- a packet names a byte exactly when the only code that it draws is 03, and that byte
   pub judges : (a : State) (p : List ℕ) (n : ℕ) → (wrong_in (judged a p) ≡ Some n) ↔ (DrawsOn a (arrived p) (0x03 ∷ []) × NamedIn a.transfer (arrived p) n)
   pub owed : (a : State) (p : List ℕ) → DrawsOn a (arrived p) (0x03 ∷ []) → wrong_in (judged a p) ≡ None → ⊥

@@ -1,5 +1,5 @@
 -- The table of commands: their bytes and the layout of their data (document 01, "Commands and factory values").
-use Rattle.std.specs.Prelude.{Option, None, Some, ℕ, Bool, true, false, cond, not, ◌&&◌, List, [], ◌∷◌, eqb}
+use Rattle.std.specs.Prelude.{Option, None, Some, ℕ, Bool, false, cond, not, ◌&&◌, List, [], ◌∷◌, eqb}
 use Rattle.packet.specs.Packet.{sum}
 use Rattle.command.specs.declared.table.Command.{Command}
 use Rattle.command.specs.declared.table.Command.TheVariants.{DisplayMode, TestPattern, LedCurrent, StaticColour, DisplaySetting, VideoInput, VideoMode, PatternSequence, SequenceRun}
@@ -68,11 +68,6 @@ size_of c = sum (layout c)
 -- all but 01 06 can be read
 abbrev pub readable : Command → Bool
 readable c = not (same c StaticColour)
-
--- the command is in the table
-abbrev pub is_known : Option Command → Bool
-is_known None = false
-is_known (Some c) = true
 
 -- it is in the table and can be read
 abbrev pub can_read : Option Command → Bool

@@ -421,7 +421,7 @@ pub(crate) fn blocked(v: Value, mode: u8) -> bool
     ensures { result ≡ blocked_in (command_in v) (values_in v) mode }
 {
     match v {
-        Value::SequenceRun(r) => (r == 1) & (mode != PATTERN_SEQUENCE_MODE),
+        Value::SequenceRun(r) => r == 1 && mode != PATTERN_SEQUENCE_MODE,
         _ => false, // no other command needs a mode
     }
 }

@@ -1,5 +1,5 @@
 -- Write packets: the encoder's packet is judged as its write, and an accepted whole write encodes to its own bytes.
-use Rattle.std.specs.Prelude.{Option, Some}
+use Rattle.std.specs.Prelude.{Option, Some, is_some}
 use Prim.Native.Nat.{ℕ, ◌≤◌}
 use mathlib.Core.Path.{◌≡◌, refl, ap, sym, subst, ◌∙◌}
 use mathlib.Core.Bool.{Bool, true, false, cond, not, ◌&&◌, ◌||◌, and-false}
@@ -13,7 +13,7 @@ use Rattle.packet.specs.Packet.{type_of, cmd1_of, cmd2_of, flags_of, payload_len
 use Rattle.packet.proofs.NumberLaws.{bytes_take, bytes_drop}
 use Rattle.packet.proofs.StreamLaws.{IsPacket}
 use Rattle.packet.proofs.WriterLaws.{length_written, packet_written, payload_written, sum_written, packet_remade}
-use Rattle.command.specs.Table.{cmd1_for, cmd2_for, is_known, can_read, layout, size_of}
+use Rattle.command.specs.Table.{cmd1_for, cmd2_for, can_read, layout, size_of}
 use Rattle.command.specs.Settings.{store}
 use Rattle.command.specs.Rules.{allowed, blocked}
 use Rattle.command.specs.Data.{join_all, Fit}
@@ -118,7 +118,7 @@ whole_closed (Opened c d) o type h = go (not (eqb type host_write)) h
 -- a type that is not wrong and is no read is a write
 type_write : (f : Option Command) (type : ℕ) → wrong_command f type ≡ false → eqb type host_read ≡ false → type ≡ host_write
 unfolding wrong_command
-type_write f type h e = eqb-true type host_write (go (eqb type host_write) (eqb type host_read) (is_known f) (can_read f) h e)
+type_write f type h e = eqb-true type host_write (go (eqb type host_write) (eqb type host_read) (is_some f) (can_read f) h e)
   where
     go : (w r k c : Bool) → (not (w || r) || not k || (r && not c)) ≡ false → r ≡ false → w ≡ true
     go true r k c h e = refl

@@ -27,7 +27,7 @@ use Rattle.command.specs.Response.{response, wrong_in}
 use Rattle.command.specs.Player.{State, judged, next, judgements, responses, after}
 use Rattle.command.specs.Controller.{transfer_of, held_in, state_of, receiver_in}
 use Rattle.command.specs.Endpoint.{arrived_in, judged_in, response_in, carried_out, After, waiting, receive_call}
-use Rattle.command.specs.Sending.{Reply, serves, Ready, Sending, replies_to, sent_to, wrong_to, Boundary}
+use Rattle.command.specs.Sending.{Given, serves, Ready, Sending, replies_to, sent_to, wrong_to, Boundary}
 use Rattle.command.specs.Demand2.{Follows}
 use Rattle.command.specs.declared.judgement.Judgement.{Judgement}
 use Rattle.command.specs.declared.judgement.Judgement.TheVariants.{Error, Hold, Write, Read}
@@ -158,24 +158,24 @@ between_of q = record { header = q.ready.header; received = q.received }
 -- What packets give one after the other, and all that is followed of a stream: Follows, and the byte that is wrong beside each response.
 
 -- what a packet gives
-abbrev reply_to : State → List ℕ → Reply
+abbrev reply_to : State → List ℕ → Given
 reply_to a p = record { response = response a.settings (arrived p) (judged a p); wrong = wrong_in (judged a p) }
 
-replies : State → List (List ℕ) → List Reply
+replies : State → List (List ℕ) → List Given
 replies a [] = []
 replies a (p ∷ ps) = reply_to a p ∷ replies (next a p) ps
 
-reply_responses : (a : State) (ps : List (List ℕ)) → map (λ (x : Reply). x.response) (replies a ps) ≡ responses a ps
+reply_responses : (a : State) (ps : List (List ℕ)) → map (λ (x : Given). x.response) (replies a ps) ≡ responses a ps
 unfolding replies responses
 reply_responses a [] = refl
 reply_responses a (p ∷ ps) = ap {B = List (List ℕ)} (λ xs. response a.settings (arrived p) (judged a p) ∷ xs) (reply_responses (next a p) ps)
 
-reply_wrong : (a : State) (ps : List (List ℕ)) → map (λ (x : Reply). x.wrong) (replies a ps) ≡ map wrong_in (judgements a ps)
+reply_wrong : (a : State) (ps : List (List ℕ)) → map (λ (x : Given). x.wrong) (replies a ps) ≡ map wrong_in (judgements a ps)
 unfolding replies judgements
 reply_wrong a [] = refl
 reply_wrong a (p ∷ ps) = ap {B = List (Option ℕ)} (λ xs. wrong_in (judged a p) ∷ xs) (reply_wrong (next a p) ps)
 
-record Replies (c : Controller) (b : List ℕ) (r : Served Controller Reply) : Type 0 where
+record Replies (c : Controller) (b : List ℕ) (r : Served Controller Given) : Type 0 where
   given : r.given ≡ replies (state_of c) (packets b)
   ends : state_of r.state ≡ after (state_of c) (packets b)
   base : Receiver
@@ -209,7 +209,7 @@ module _ (out : List ℕ) (l : 64 ≤ length out) where
   follows_more p b i ih c q =
       let t = takes_packet out l c q.ready (between_of q) p b i in
       let d : Controller = (receive_call c (p ++ b) out).controller in
-      let m : Reply = reply_to (state_of c) p in
+      let m : Given = reply_to (state_of c) p in
       let n : length (p ++ b) ≡ length p + length b = length-append p b in
       let e : serves out c (p ++ b) ≡ record { taken = length p; gives = Some m; state = d } =
       rw (t.answer, t.output, t.wrong, take_at (drawn c p) (drop (length (drawn c p)) out) (length (drawn c p)) refl) in
@@ -217,12 +217,12 @@ module _ (out : List ℕ) (l : 64 ≤ length out) where
       ap (calls_on (serves out) (length (p ++ b)) d) (drop_at p b (length p) refl)
       ∙ same_calls (serves out) Ready (endpoint_streams out l) (length (p ++ b)) (suc (length b)) d b t.ready (omega (arith, i.least)) (omega arith) in
       let f : served_one (serves out) c (p ++ b) ≡ record { given = m ∷ (served_one (serves out) d b).given; state = (served_one (serves out) d b).state } =
-      ap (λ (x : Call Controller Reply). and_then x.gives x.state (calls_on (serves out) (length (p ++ b)) x.state (drop x.taken (p ++ b)))) e
-      ∙ ap (λ (x : Served Controller Reply). and_then (Some m) d x) more in
+      ap (λ (x : Call Controller Given). and_then x.gives x.state (calls_on (serves out) (length (p ++ b)) x.state (drop x.taken (p ++ b)))) e
+      ∙ ap (λ (x : Served Controller Given). and_then (Some m) d x) more in
       let g = ih d (record { ready = t.ready; received = t.boundary.received }) in
       subst (Replies c (p ++ b)) (sym f)
       (record {
-        given = rw (packets_cons p b i) (ap {B = List Reply} (λ xs. m ∷ xs) (g.given ∙ ap (λ (a : State). replies a (packets b)) t.state));
+        given = rw (packets_cons p b i) (ap {B = List Given} (λ xs. m ∷ xs) (g.given ∙ ap (λ (a : State). replies a (packets b)) t.state));
         ends = rw (packets_cons p b i) (g.ends ∙ ap (λ (a : State). after a (packets b)) t.state);
         base = g.base;
         boundary = g.boundary;
@@ -243,7 +243,7 @@ pub follows_played : (c : Controller) (b : List ℕ) (s : Sending b) → Boundar
 follows_played c b s q =
     let r = all_played c b s q in
     record {
-      given = ap (map (λ (x : Reply). x.response)) r.given ∙ reply_responses (state_of c) (packets b);
+      given = ap (map (λ (x : Given). x.response)) r.given ∙ reply_responses (state_of c) (packets b);
       ends = r.ends;
       base = r.base;
       boundary = r.boundary;
@@ -253,4 +253,4 @@ follows_played c b s q =
 
 -- And beside each response stands the byte that is wrong.
 pub wrong_played : (c : Controller) (b : List ℕ) (s : Sending b) → Boundary c → wrong_to c s ≡ map wrong_in (judgements (state_of c) (packets b))
-wrong_played c b s q = ap (map (λ (x : Reply). x.wrong)) (all_played c b s q).given ∙ reply_wrong (state_of c) (packets b)
+wrong_played c b s q = ap (map (λ (x : Given). x.wrong)) (all_played c b s q).given ∙ reply_wrong (state_of c) (packets b)

@@ -21,7 +21,7 @@ use Rattle.command.specs.Judgement.{judge}
 use Rattle.command.specs.Carry.{settings_after}
 use Rattle.command.specs.Controller.{transfer_of, held_in, state_of, receiver_in}
 use Rattle.command.specs.Endpoint.{taken_by, arrived_in, judged_in, response_in, registers_of, carried_out, After, waiting, answered, receive_call}
-use Rattle.command.specs.Sending.{Reply, shown, serves, Sending, replies_to, sent_to, Ready}
+use Rattle.command.specs.Sending.{Given, shown, serves, Sending, replies_to, sent_to, Ready}
 use Rattle.command.specs.declared.judgement.Judgement.{Judgement}
 use Rattle.command.specs.declared.controller.Controller.{Controller}
 use Rattle.command.proofs.rules.Laws.{kept_by, in_rule_of}
@@ -151,7 +151,7 @@ module _ (out : List ℕ) (l : 64 ≤ length out) where
       let e = sym (ap (λ (r : After). (shown r).gives) (call_answers c a out k l h)) ∙ g in
       let z : ◌≡◌ {A = ℕ} 0 1 = cc in absurd (omega arith))
 
-  some_answers : (c : Controller) (a : List ℕ) (e : Reply) → Ready c → (serves out c a).gives ≡ Some e → missing (receiver_in c) a ≤ length a
+  some_answers : (c : Controller) (a : List ℕ) (e : Given) → Ready c → (serves out c a).gives ≡ Some e → missing (receiver_in c) a ≤ length a
   some_answers c a e k g =
       lt_cases (length a) (missing (receiver_in c) a)
       (λ h.
@@ -230,5 +230,5 @@ unfolding served_one
 sent_in_rule c b s k =
     let out = s.outs 0 in
     let l = s.room 0 in
-    subst (λ (r : Served Controller Reply). Ready r.state) (sym (at_once out l c b s k))
+    subst (λ (r : Served Controller Given). Ready r.state) (sym (at_once out l c b s k))
     (keeps_calls (serves out) Ready (endpoint_streams out l) (suc (length b)) c b k)

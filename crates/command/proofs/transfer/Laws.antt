@@ -1,5 +1,5 @@
 -- What no fault of the first group says of a packet, and a transfer by the controller's numbers.
-use Rattle.std.specs.Prelude.{Option, None, Some}
+use Rattle.std.specs.Prelude.{Option, None, Some, is_some}
 use Prim.Native.Nat.{ℕ, ◌+◌, ◌≤◌}
 use mathlib.Core.Path.{◌≡◌, refl, ap, ap₂, sym, subst, ◌∙◌}
 use mathlib.Core.Bool.{Bool, true, false, not, ◌&&◌, ◌||◌, and-true}
@@ -11,7 +11,7 @@ use lib.Seq.{length-take-le}
 use borrow.Author.Tests.{eq-eqb, ne_eqb, eqb-true, eqb-false, ltb-false, leb-true, not-false}
 use Rattle.packet.specs.Packet.{host_write, host_read, whole, beginning, intermediate, last}
 use Rattle.packet.proofs.Cases.{bool_cases, and_left, and_right, or_left, or_right}
-use Rattle.command.specs.Table.{cmd1_for, cmd2_for, has_code, command_of, is_known, same, readable}
+use Rattle.command.specs.Table.{cmd1_for, cmd2_for, has_code, command_of, same, readable}
 use Rattle.command.specs.Transfer.{Transfer, Closed, Opened, is_open, held, open_for}
 use Rattle.command.specs.Faults.{Arrived, continues, wrong_command, too_long, wrong_order, faults, any_fault}
 use Rattle.command.specs.Controller.{held_in, transfer_in, transfer_in_rule}
@@ -114,17 +114,17 @@ module _ (t : TransferState) (r : transfer_in_rule t ≡ true) where
   by_transfer none some =
       bool_cases (eqb t.active 0) none
       (λ e. known (command_of t.cmd1 t.cmd2) refl
-      (subst (λ (b : Bool). (b || is_known (command_of t.cmd1 t.cmd2)) ≡ true) e
-      (and_right (leb t.held 1024) (eqb t.active 0 || is_known (command_of t.cmd1 t.cmd2)) r))
+      (subst (λ (b : Bool). (b || is_some (command_of t.cmd1 t.cmd2)) ≡ true) e
+      (and_right (leb t.held 1024) (eqb t.active 0 || is_some (command_of t.cmd1 t.cmd2)) r))
       (λ c k. some c e k))
     where
-      known : {P : Type 0} (f : Option Command) → command_of t.cmd1 t.cmd2 ≡ f → is_known f ≡ true → ((c : Command) → command_of t.cmd1 t.cmd2 ≡ Some c → P) → P
+      known : {P : Type 0} (f : Option Command) → command_of t.cmd1 t.cmd2 ≡ f → is_some f ≡ true → ((c : Command) → command_of t.cmd1 t.cmd2 ≡ Some c → P) → P
       known None e k g = let z : ◌≡◌ {A = ℕ} 0 1 = cc in absurd (omega arith)
       known (Some c) e k g = g c e
 
   pub count_most : t.held ≤ 1024
   unfolding transfer_in_rule
-  count_most = leb-true t.held 1024 (and_left (leb t.held 1024) (eqb t.active 0 || is_known (command_of t.cmd1 t.cmd2)) r)
+  count_most = leb-true t.held 1024 (and_left (leb t.held 1024) (eqb t.active 0 || is_some (command_of t.cmd1 t.cmd2)) r)
 
   pub held_most : held_in t ≤ 1024
   held_most = bool_cases (eqb t.active 0) (λ e. rw e (omega arith)) (λ e. rw e count_most)
