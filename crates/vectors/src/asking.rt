@@ -190,10 +190,9 @@ pub fn carry(rt: &impl Print, mut case: Case<'_>) {
     let j = judgement(&mut case);
     let n = usize::from(case.word()).min(ROOM);
     let mut out = [BLANK; ROOM];
-    let mut after = c;
-    let answer = after.carry_out(&j, &mut out[..n]);
-    let kept = told(rt, &c, &after, answer, &out);
-    ended(rt, &after);
+    let step = command::carry_out(c, j, &mut out[..n]);
+    let kept = told(rt, &c, &step.controller, step.answer, &out);
+    ended(rt, &step.controller);
     if !kept {
         text(rt, " | touched");
     }

@@ -6,7 +6,7 @@ ghost use Rattle.std.specs.Prelude.{◌≤◌, length};
 
 use crate::said::{Aloud, Said, number, prefix, text};
 use command::{Controller, LIST_OUTPUT, OUTPUT};
-use packet::{Progress, next_packet};
+use packet::{Progress, Refusal, next_packet};
 
 // The last place at which a stream is cut. With all, the work would grow with its length's square.
 const PLACES: usize = 1700;
@@ -20,19 +20,29 @@ fn sizes(rt: &impl Print, b: &[u8]) {
     }
 }
 
-// One call: how many bytes it took. The response is said, and the wrong byte beside it. A call that
-// completes no packet has neither; a wrong byte that it told all the same would be one too many.
+// What a call answered: the response is said, and the wrong byte beside it. A call that completes no packet
+// has neither; a wrong byte that it told all the same would be one too many.
+fn answered<P: Print>(
+    said: &mut Said<'_, P>,
+    out: &[u8; OUTPUT],
+    answer: Result<Progress, Refusal>,
+    wrong: Option<u8>,
+) {
+    if let Ok(Progress::Answered { length, .. }) = answer {
+        said.bytes(" ", prefix(out, length));
+        said.wrong(wrong);
+    } else if wrong.is_some() {
+        said.wrong(wrong);
+    }
+}
+
+// One call on a lent controller: how many bytes it took.
 fn call<P: Print>(said: &mut Said<'_, P>, head: &mut Controller, input: &[u8]) -> usize
     ensures { result ≤ length input.now }
 {
     let mut out = [0u8; OUTPUT];
     let reply = head.receive(input, &mut out);
-    if let Ok(Progress::Answered { length, .. }) = reply.answer {
-        said.bytes(" ", prefix(&out, length));
-        said.wrong(reply.wrong);
-    } else if reply.wrong.is_some() {
-        said.wrong(reply.wrong);
-    }
+    answered(said, &out, reply.answer, reply.wrong);
     let taken = match reply.answer {
         Ok(Progress::Waiting(taken) | Progress::Answered { taken, .. }) => taken,
         Err(_) => 0,
@@ -67,16 +77,19 @@ fn finish<P: Print>(said: &mut Said<'_, P>, head: &Controller) {
     }
 }
 
-// A run byte by byte. It and the next differ in their pieces, and are as short as one over an iterator of them.
+// A run byte by byte, by the calls that hand the controller back.
 fn run_by_byte<P: Print>(said: &mut Said<'_, P>, b: &[u8]) {
     let mut head = Controller::fresh();
     for byte in b.chunks(1) {
-        feed(said, &mut head, byte);
+        let mut out = [0u8; OUTPUT];
+        let step = command::receive(head, byte, &mut out);
+        answered(said, &out, step.answer, step.wrong);
+        head = step.controller;
     }
     finish(said, &head);
 }
 
-// A run that is cut in two.
+// A run that is cut in two, by the calls on a lent controller.
 fn run_cut<P: Print>(said: &mut Said<'_, P>, start: &[u8], end: &[u8]) {
     let mut head = Controller::fresh();
     feed(said, &mut head, start);
