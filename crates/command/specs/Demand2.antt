@@ -1,7 +1,7 @@
 -- Demand 2: "Responses and settings follow the LightCrafter DM365 command guide as document 01 condenses it, however the byte stream was cut. Our own encoder's
 -- packet for a legal write, sent to a head with nothing half received and no transfer open, is read back as that same write, and every write accepted in one packet
--- encodes to the bytes it arrived as." It is a claim about the calls: the contracts of `receive` and `encode` are receive_call and encode_call. Proved in
--- proofs/Demand2.antt.
+-- encodes to the bytes it arrived as." It is a claim about the calls: receive_call is the contract of `receive`, by value, and of
+-- `Controller::receive`, on a controller that is lent, and encode_call that of `encode`. Proved in proofs/Demand2.antt.
 use Rattle.std.specs.Prelude.{ℕ, ◌+◌, ◌≤◌, ◌≡◌, true, false, List, [], ◌∷◌, ◌++◌, length, take}
 use Rattle.packet.specs.Calls.{Served}
 use Rattle.packet.specs.Number.{Bytes}

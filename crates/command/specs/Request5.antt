@@ -2,8 +2,9 @@
 -- Judging then carrying out must equal document 01's rules on every controller and complete packet, and so must carrying out on any other controller that 4 lets
 -- pass; neither touches a half-received packet. A judgement goes stale when the controller changes, so it keeps the mode, open command and held data it was made
 -- under. Refusals: 5 for judging bytes that aren't exactly one packet; for carrying out, 2 for a judgement without error codes that no packet draws from a controller
--- that 3 lets pass and that has what it keeps, then 4 exactly when a kept item differs; nothing changes; all after 1 and 3." The contracts of `judge_packet` and
--- `carry_out` are judge_call and carry_call. Proved in proofs/Request5.antt.
+-- that 3 lets pass and that has what it keeps, then 4 exactly when a kept item differs; nothing changes; all after 1 and 3." judge_call is the contract of
+-- `judge_packet` and of `Controller::judge`, carry_call that of `carry_out` and of `Controller::carry_out`: by value, and on a controller that is lent. Proved in
+-- proofs/Request5.antt.
 use Rattle.std.specs.Prelude.{ℕ, ◌<◌, ◌≤◌, ◌≡◌, ◌↔◌, ◌⊎◌, true, false, length, take, None, Some}
 use mathlib.Core.List.{List, [], ◌∷◌, ◌++◌, map, Memᴰ}
 use Rattle.packet.specs.Answer.{Answers}
@@ -131,7 +132,8 @@ pub record Request5 : Type 0 where
       → ((sent_to c s).given ≡ take n r.output ∷ [])
       × (map wrong_told (wrong_to c s) ≡ (judgement_of c p lent).ruling.wrong ∷ [])
       × (state_of (sent_to c s).state ≡ state_of r.controller)
-  -- "neither touches a half-received packet": judging hands no controller back, and whatever is carried out leaves header, sum, count and payload.
+  -- "neither touches a half-received packet": `judge_packet` hands no controller back, and `Controller::judge` leaves its own, lent as `&self`: its contract has one
+  -- controller, `self.now`. Whatever is carried out leaves header, sum, count and payload.
   pub half : (c : Controller) (j : JudgementRecord) (out : List ℕ) → receiver_in (carry_call c j out).controller ≡ receiver_in c
   -- Over a run of any length, in which bytes are received and judgements carried out: a head at a packet boundary has received no byte of a packet;
   pub begins : (c : Controller) → Boundary c → HalfReceived c []
