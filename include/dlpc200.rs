@@ -108,6 +108,15 @@ const _: () = {
     assert!(offset_of!(Device, states) == 15);
 };
 
+/// What a call refuses. It then takes nothing and leaves output and device as they were.
+#[derive(Clone, Copy, PartialEq, Eq, Debug)]
+pub enum Refusal {
+    /// 1: the output is shorter than 64 bytes.
+    ShortOutput,
+    /// 3: the device is out of rule.
+    OutOfRule,
+}
+
 /// What a call answers.
 #[derive(Clone, Copy, PartialEq, Eq, Debug)]
 pub enum Answer {
@@ -115,8 +124,6 @@ pub enum Answer {
     Waiting { taken: usize },
     /// One packet is complete, and its response stands at the output's start.
     Answered { taken: usize, length: usize },
-    /// Refusal 1 (output under 64 bytes) or 3 (device out of rule); nothing was taken or changed.
-    Refused(u32),
 }
 
 /// The library's functions. A slice goes as a pointer and then a length.
@@ -139,14 +146,16 @@ impl Device {
     }
 
     /// Takes bytes until the input ends or one packet is complete.
-    pub fn receive(&mut self, input: &[u8], out: &mut [u8]) -> Answer {
+    pub fn receive(&mut self, input: &[u8], out: &mut [u8]) -> Result<Answer, Refusal> {
         let (mut taken, mut size) = (0, 0);
         // The library reads within input_length bytes at input and writes within out_length bytes at out.
         let refusal = unsafe { calls::dlpc200_receive(self, input.as_ptr(), input.len() as u64, out.as_mut_ptr(), out.len() as u64, &mut taken, &mut size) };
         match (refusal, size) {
-            (0, 0) => Answer::Waiting { taken: taken as usize },
-            (0, _) => Answer::Answered { taken: taken as usize, length: size as usize },
-            _ => Answer::Refused(refusal),
+            (0, 0) => Ok(Answer::Waiting { taken: taken as usize }),
+            (0, _) => Ok(Answer::Answered { taken: taken as usize, length: size as usize }),
+            (1, _) => Err(Refusal::ShortOutput),
+            (3, _) => Err(Refusal::OutOfRule),
+            _ => unreachable!("no call refuses with {refusal}"),
         }
     }
 }

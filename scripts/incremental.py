@@ -7,6 +7,7 @@ since `rt ci` refuses a repository with a .rt or .antt file outside its crates.
 """
 import atexit
 import concurrent.futures
+import functools
 import os
 import pathlib
 import queue
@@ -77,23 +78,57 @@ def edited(name, edit):
     return texts
 
 
+def functions(name, texts=None):
+    """The functions of a crate: the file, the line, and what the names of the proof files begin with that are its own.
+    Those of a method stand with the file that defines the type, wherever its impl is."""
+    folder = ROOT / "crates" / name
+    files = {str(path.relative_to(folder)): path.read_text() for path in sorted(folder.glob("src/**/*.rt"))}
+    files |= {path: text for path, text in (texts or {}).items() if path.startswith("src/")}
+    modules = {path: re.sub(r"^(?:lib|main)/", "", path.removeprefix("src/").removesuffix(".rt") + "/") for path in files}
+    defined = {found: modules[path] for path, text in files.items() for found in re.findall(r"^(?:pub(?:\(crate\))? )?(?:struct|enum|union) (\w+)", text, re.M)}
+    for path, text in files.items():
+        owner = modules[path]
+        for number, line in enumerate(text.splitlines(), 1):
+            of, function = re.match(r"impl\b.*?(\w+)(?:<[^<>]*>)? \{", line), re.match(r"(?!\s*//).*?\bfn (\w+)", line)
+            if of:
+                owner = f"{defined.get(of[1], modules[path])}{of[1]}/"
+            elif line.startswith("}"):
+                owner = modules[path]
+            elif function:
+                yield path, number, rf"proofs/{owner}{function[1]}(?:/|\.antt$)"
+
+
+@functools.cache
+def owned(name):
+    """Stops where the proofs of a function of the crate belong to no function of src/, or to two: what is their own
+    could not be told."""
+    folder = ROOT / "crates" / name
+    for path in sorted(folder.glob("proofs/**/*.antt")):
+        file = str(path.relative_to(folder))
+        owners = [f"{source}:{line}" for source, line, own in functions(name) if re.match(own, file)]
+        if len(owners) > 1 or not owners and path.name in ("Answers.antt", "Invariants.antt"):
+            raise SystemExit(f"{name}: {file} belongs to {' and '.join(owners) or 'no function of src/'}")
+
+
 def own_proofs(name, texts, path, line):
     """What the names of the proof files begin with that are of the one function a place in src/ lies in. A function
     begins with its attributes."""
     lines = (texts.get(path) or (ROOT / "crates" / name / path).read_text()).splitlines()
-    below = lines[line - 1].lstrip().startswith("#[")
-    for text in lines[line - 1:] if below else reversed(lines[:line]):
-        function = re.match(r"(?!\s*//).*?\bfn (\w+)", text)
-        if function:
-            module = path.removeprefix("src/").removesuffix(".rt")
-            return "proofs/" + ("" if module in ("lib", "main") else f"{module}/") + rf"(?:[A-Z]\w*/)?{function[1]}(?:/|\.antt$)"
-    raise ValueError(f"there is no function at {path}:{line}")
+    places = [(number, own) for file, number, own in functions(name, texts) if file == path]
+    if lines[line - 1].lstrip().startswith("#["):
+        near = [own for number, own in places if number > line][:1]
+    else:
+        near = [own for number, own in places if number <= line][-1:]
+    if not near:
+        raise ValueError(f"there is no function at {path}:{line}")
+    return near[0]
 
 
 def in_doubt(name, edit, word):
     """Whether what rt tells of a refused edit, the first error or else the first note, leaves open that the proof only
     became unfit. A goal that is noted on a function without proof files of its own can have lost none. What fell with
     a theorem in a file that the edit changes rt takes for a text that cannot be read."""
+    owned(name)
     if re.match(rf"({AS_IT_MUST}|{UNREADABLE}): \S+: error: \d+ declarations? that depends? on ", word):
         return True
     if not word.startswith(f"{AS_IT_MUST}: note: "):

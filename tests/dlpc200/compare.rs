@@ -80,11 +80,15 @@ fn real(m: &Model) -> Device {
     Device { received: m.count as u32, header, hold, sum: m.sum, states: States { park, sequence, eeprom, flash, lit } }
 }
 
-fn told(answer: &Answer) -> dlpc200::Answer {
+fn told(answer: &Answer) -> Result<dlpc200::Answer, dlpc200::Refusal> {
     match *answer {
-        Answer::Refused(number) => dlpc200::Answer::Refused(number),
-        Answer::Waiting(taken) => dlpc200::Answer::Waiting { taken },
-        Answer::Answered(taken, length) => dlpc200::Answer::Answered { taken, length },
+        Answer::Refused(1) => Err(dlpc200::Refusal::ShortOutput),
+        Answer::Refused(number) => {
+            assert_eq!(number, 3, "the model refuses with 1 and 3");
+            Err(dlpc200::Refusal::OutOfRule)
+        }
+        Answer::Waiting(taken) => Ok(dlpc200::Answer::Waiting { taken }),
+        Answer::Answered(taken, length) => Ok(dlpc200::Answer::Answered { taken, length }),
     }
 }
 
@@ -199,7 +203,7 @@ fn worked(tally: &mut Tally) {
     assert_eq!(d, real(&m));
     for (request, response) in requests {
         let mut out = [0xEE; 64];
-        assert_eq!(d.receive(request, &mut out), dlpc200::Answer::Answered { taken: 9, length: response.len() });
+        assert_eq!(d.receive(request, &mut out), Ok(dlpc200::Answer::Answered { taken: 9, length: response.len() }));
         assert_eq!(&out[..response.len()], response);
         assert!(out[response.len()..].iter().all(|b| *b == 0xEE));
         feed(&mut m, request, 0xEE, tally);
@@ -210,7 +214,7 @@ fn worked(tally: &mut Tally) {
         let mut d = Device::new(States { park: 0, sequence: 1, eeprom: 0, flash: 7, lit: 1 });
         d.sum = 1;
         let mut out = [0xEE; 64];
-        d.receive(&[0x02, 0xAA, 0, 0, 2, 0, 0x05, 0, checksum], &mut out);
+        assert!(d.receive(&[0x02, 0xAA, 0, 0, 2, 0, 0x05, 0, checksum], &mut out).is_ok());
         assert_eq!((out[6], d.states.park), (status, park));
     }
 }
@@ -223,7 +227,7 @@ fn status_of(cmd: [u8; 4], data: &[u8], checksum: u8) -> (u8, u8) {
     packet.push(sum);
     let mut d = Device::new(States { park: 0, sequence: 1, eeprom: 0, flash: 7, lit: 1 });
     let mut out = [0xEE; dlpc200::OUTPUT_LEAST];
-    assert!(matches!(d.receive(&packet, &mut out), dlpc200::Answer::Answered { taken, .. } if taken == packet.len()));
+    assert!(matches!(d.receive(&packet, &mut out), Ok(dlpc200::Answer::Answered { taken, .. }) if taken == packet.len()));
     assert_eq!(out[0], if cmd[0] == dlpc200::READ { dlpc200::READ_RESP } else { dlpc200::WRITE_RESP });
     (out[status::AT_DATA0], out[status::AT_DATA1])
 }

@@ -67,24 +67,25 @@ fn reach(r: &[u8], place: usize) -> Option<Reached<'_>> {
     if bytes.is_empty() {
         return None;
     }
-    let mut head = Controller::fresh();
-    // There is a last number, since a program ends; no report has so many packets.
-    for number in 1..usize::MAX {
-        if before.is_empty() {
-            return Some(Reached {
-                number,
-                bytes,
-                head,
-            });
-        }
+    let (mut head, mut number) = (Controller::fresh(), 1usize);
+    while !before.is_empty() {
         let mut response = [0u8; OUTPUT];
-        let Progress::Answered { taken, .. } = head.receive(before, &mut response).answer.ok()?
+        // A packet has bytes, so that the rest gets shorter.
+        let Progress::Answered {
+            taken: taken @ 1..,
+            ..
+        } = head.receive(before, &mut response).answer.ok()?
         else {
             return None;
         };
         before = before.get(taken..)?;
+        number = number.saturating_add(1);
     }
-    None
+    Some(Reached {
+        number,
+        bytes,
+        head,
+    })
 }
 
 // Sends the head the packet that the bytes begin with. None where it draws another write response, or the

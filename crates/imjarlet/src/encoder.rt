@@ -1,19 +1,26 @@
 // The encoder and the standard shipping list.
-ghost use Rattle.std.specs.Prelude.{cond, ◌≡◌, ltb};
-ghost use Rattle.command.specs.Encoder.{list_call};
+ghost use Rattle.std.specs.Prelude.{cond, ◌≡◌, ltb, Err};
+ghost use Rattle.command.specs.Encoder.{Refuses, outcome_of, refusal_of, length_of, list_call};
 ghost use Rattle.imjarlet.specs.Exports.{Emits, write_call};
 
 use crate::answer::told;
 use command::{Command, EncodeRefusal, Settings};
 
-// The refusal's number for a command that is not in the table, tested after the output's length.
-fn unknown(n: usize) -> u32
-    ensures { result ≡ cond (ltb n 64) 1 2 }
+// The numbers of an answer.
+fn encoded(answer: Result<usize, EncodeRefusal>, size: &mut u64) -> u32
+    ensures { (result ≡ refusal_of (outcome_of answer)) × (size.new ≡ length_of (outcome_of answer)) }
+{
+    told(answer.map_err(|refusal| refusal as u32), size)
+}
+
+// The refusal of a command that is not in the table, tested after the output's length.
+fn unknown(n: usize) -> EncodeRefusal
+    ensures { outcome_of (Err result) ≡ Refuses (cond (ltb n 64) 1 2) }
 {
     if n < command::OUTPUT {
-        return EncodeRefusal::ShortOutput as u32;
+        return EncodeRefusal::ShortOutput;
     }
-    EncodeRefusal::NotAllowed as u32
+    EncodeRefusal::NotAllowed
 }
 
 // The whole-packet write of what the settings have for this command. Nothing else of the settings is
@@ -28,20 +35,14 @@ pub fn imjarlet_encode(
     ensures { Emits (write_call cmd1 cmd2 settings.now out.old) result size.new out.new }
 {
     let Some(c) = Command::find(cmd1, cmd2) else {
-        return told(Err(unknown(out.len())), size);
+        return encoded(Err(unknown(out.len())), size);
     };
-    told(
-        command::encode(command::value_of(*settings, c), out).map_err(|refusal| refusal as u32),
-        size,
-    )
+    encoded(command::encode(command::value_of(*settings, c), out), size)
 }
 
 // One whole-packet write for each command, in table order.
 pub fn imjarlet_standard_list(settings: &Settings, out: &mut [u8], size: &mut u64) -> u32
     ensures { Emits (list_call settings.now out.old) result size.new out.new }
 {
-    told(
-        command::standard_list(*settings, out).map_err(|refusal| refusal as u32),
-        size,
-    )
+    encoded(command::standard_list(*settings, out), size)
 }

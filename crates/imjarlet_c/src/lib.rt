@@ -20,8 +20,7 @@ pub extern "C" fn imjarlet_reset(c: &mut Controller) -> u32
     imjarlet::imjarlet_reset(c)
 }
 
-// Takes bytes until the input ends or one packet is complete. The controller's arrays are changed
-// where they stand, and its settings are stored only where a packet was complete.
+// Takes bytes until the input ends or one packet is complete. The controller is changed where it stands.
 #[unsafe(no_mangle)]
 pub extern "C" fn imjarlet_receive(
     c: &mut Controller,
@@ -45,8 +44,8 @@ pub extern "C" fn imjarlet_judge(c: &Controller, packet: &[u8], j: &mut Judgemen
     imjarlet::imjarlet_judge(c, packet, j)
 }
 
-// Carries out a judgement. What is half received stays where it is, and the settings are stored only
-// where the judgement was carried out.
+// Carries out a judgement. What is half received stays where it is, and the settings change only where the
+// judgement was carried out.
 #[unsafe(no_mangle)]
 pub extern "C" fn imjarlet_carry_out(
     c: &mut Controller,
