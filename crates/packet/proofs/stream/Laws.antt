@@ -11,7 +11,7 @@ use Rattle.packet.specs.Stream.{next_in, size, has_packet, packets_in, packets, 
 use Rattle.std.specs.Prelude.{None, Some}
 use Rattle.packet.specs.declared.stream.WholePacket.{WholePacket}
 use Rattle.packet.proofs.Cases.{cond_cases, bool_cases, and_right, and_both}
-use Rattle.packet.proofs.number.Laws.{bytes_take, bytes_drop, byte_get}
+use Rattle.packet.proofs.number.Laws.{bytes_take, bytes_drop}
 
 -- p is one whole packet
 pub record IsPacket (p : List ℕ) : Type 0 where
@@ -263,11 +263,6 @@ right_front b h =
 pub payload_length_lem : (p : List ℕ) → size p ≡ length p → length (payload p) ≡ payload_length p
 unfolding payload size
 payload_length_lem p e = length-take-le (payload_length p) (drop 6 p) (simp length-drop (omega (arith, e)))
-
--- "A packet is 7 to 65,542 bytes"
-pub size_most : (b : List ℕ) → Bytes b → size b ≤ 65542
-unfolding size
-size_most b h = omega (arith, byte_get b 4 h, byte_get b 5 h)
 
 -- The packet at a place of a buffer, n being what its length field says.
 module _ (b : List ℕ) (at : ℕ) where
