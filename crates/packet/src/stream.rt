@@ -5,7 +5,7 @@ ghost use Rattle.packet.specs.Stream.{next_in};
 
 use crate::bytes::sum_with;
 use crate::number::word;
-use crate::packet::FRAME;
+use crate::packet::{FRAME, HEADER};
 
 // A whole packet that stands at a place of a slice.
 #[derive(Clone, Copy)]
@@ -29,19 +29,12 @@ fn right_sum(p: &[u8]) -> bool
 pub fn next_packet(b: &[u8], at: usize) -> Option<WholePacket>
     ensures { result ≡ next_in (drop at b.now) }
 {
-    if b.len() < at {
-        return None;
-    }
-    let left = b.len() - at;
-    if left < FRAME {
-        return None;
-    }
-    let size = FRAME + word(b[at + 4], b[at + 5]);
-    if left < size {
-        return None;
-    }
+    let left = b.get(at..)?;
+    let header = left.first_chunk::<HEADER>()?;
+    let size = FRAME + word(header[4], header[5]);
+    let packet = left.get(..size)?;
     Some(WholePacket {
         size,
-        right: right_sum(&b[at..at + size]),
+        right: right_sum(packet),
     })
 }

@@ -1,5 +1,5 @@
 -- Laws of framing: the packets of a list of bytes.
-use Rattle.std.proofs.Common.{◌≡◌, ℕ, zero, suc, ◌+◌, ◌-◌, ◌*◌, ◌<◌, ◌≤◌, Bool, true, false, cond, eqb, leb, List, [], ◌∷◌, ◌++◌, length, get_or, take, drop, sym, refl, ap, ◌∙◌, subst, ap₂, append_assoc, arith, length-append, length-drop, take-append-drop, length-take-le, get_or-drop, get_or-take, take-take, take_at, drop_at, le-leb, leb-true}
+use Rattle.std.proofs.Common.{◌≡◌, ℕ, zero, suc, ◌+◌, ◌-◌, ◌*◌, ◌<◌, ◌≤◌, Bool, true, false, cond, eqb, leb, List, [], ◌∷◌, ◌++◌, length, get_or, take, drop, sym, refl, ap, ◌∙◌, subst, ap₂, append_assoc, arith, length-append, length-drop, take-append-drop, length-take-le, get_or-take, take-take, take_at, drop_at, le-leb, leb-true}
 use mathlib.Core.Bool.{and-false}
 use borrow.Author.Tests.{lt-leb}
 use lib.ListN.{get_or-append}
@@ -11,7 +11,7 @@ use Rattle.packet.specs.Stream.{next_in, size, has_packet, packets_in, packets, 
 use Rattle.std.specs.Prelude.{None, Some}
 use Rattle.packet.specs.declared.stream.WholePacket.{WholePacket}
 use Rattle.packet.proofs.Cases.{cond_cases, bool_cases, and_right, and_both}
-use Rattle.packet.proofs.number.Laws.{bytes_take, bytes_drop, byte_get}
+use Rattle.packet.proofs.number.Laws.{bytes_take, bytes_drop}
 
 -- p is one whole packet
 pub record IsPacket (p : List ℕ) : Type 0 where
@@ -264,41 +264,34 @@ pub payload_length_lem : (p : List ℕ) → size p ≡ length p → length (payl
 unfolding payload size
 payload_length_lem p e = length-take-le (payload_length p) (drop 6 p) (simp length-drop (omega (arith, e)))
 
--- "A packet is 7 to 65,542 bytes"
-pub size_most : (b : List ℕ) → Bytes b → size b ≤ 65542
-unfolding size
-size_most b h = omega (arith, byte_get b 4 h, byte_get b 5 h)
-
--- The packet at a place of a buffer, n being what its length field says.
-module _ (b : List ℕ) (at : ℕ) where
-  pub none_begun : length b < at + 7 → None ≡ next_in (drop at b)
+-- The packet at the front of some bytes, n being what its length field says.
+module _ (b : List ℕ) where
+  pub none_begun : length b < 7 → None ≡ next_in b
   unfolding next_in
-  none_begun l = rw (no_header (drop at b) (simp length-drop (omega arith)))
+  none_begun l = rw (no_header b l)
 
-  size_at : {n : ℕ} → n ≡ get_or b (at + 4) 0 + 256 * get_or b (at + 5) 0 → size (drop at b) ≡ 7 + n
+  size_of : {n : ℕ} {header : List ℕ} → header ≡ take 6 b → n ≡ get_or header 4 0 + 256 * get_or header 5 0 → size b ≡ 7 + n
   unfolding size
-  size_at e = rw (get_or-drop at b 4 0, get_or-drop at b 5 0) (omega arith)
+  size_of h e = let f = rw (h, get_or-take 6 b 4 0 (omega arith), get_or-take 6 b 5 0 (omega arith)) at e in omega (arith, f)
 
-  pub none_ended : {n : ℕ} → n ≡ get_or b (at + 4) 0 + 256 * get_or b (at + 5) 0 → length b < at + (7 + n) → None ≡ next_in (drop at b)
+  pub none_ended : {n : ℕ} {header : List ℕ} → header ≡ take 6 b → n ≡ get_or header 4 0 + 256 * get_or header 5 0 → length b < 7 + n → None ≡ next_in b
   unfolding next_in
-  none_ended e l = rw (no_end (drop at b) (simp length-drop (omega (arith, size_at e))))
+  none_ended h e l = rw (no_end b (omega (arith, l, size_of h e)))
 
   -- the checksum of the packet p that stands there
-  right_at : {p : List ℕ} → has_packet (drop at b) ≡ true → p ≡ take (size (drop at b)) (drop at b)
-      → eqb (get_or p (length p - 1) 0) (checksum (take (length p - 1) p)) ≡ right_sum (drop at b)
+  right_at : {p : List ℕ} → has_packet b ≡ true → p ≡ take (size b) b → eqb (get_or p (length p - 1) 0) (checksum (take (length p - 1) p)) ≡ right_sum b
   unfolding right_sum size
   right_at {p} h e =
-      let d : List ℕ = drop at b in
-      let n : ℕ = 6 + payload_length d in
-      let l : length p ≡ 7 + payload_length d = ap length e ∙ length-take-le (7 + payload_length d) d (size_within d h) in
+      let n : ℕ = 6 + payload_length b in
+      let l : length p ≡ 7 + payload_length b = ap length e ∙ length-take-le (7 + payload_length b) b (size_within b h) in
       let m : length p - 1 ≡ n = omega arith in
-      rw (m, e, get_or-take (7 + payload_length d) d n 0 (omega arith), take-take n (7 + payload_length d) d (omega arith))
+      rw (m, e, get_or-take (7 + payload_length b) b n 0 (omega arith), take-take n (7 + payload_length b) b (omega arith))
 
-  pub next_at : {n : ℕ} {right : Bool} {p : List ℕ} → n ≡ get_or b (at + 4) 0 + 256 * get_or b (at + 5) 0 → at + (7 + n) ≤ length b
-      → p ≡ take (7 + n) (drop at b)
-      → right ≡ eqb (get_or p (length p - 1) 0) (checksum (take (length p - 1) p)) → Some (record { size = 7 + n; right = right }) ≡ next_in (drop at b)
+  pub next_there : {n : ℕ} {header p : List ℕ} {right : Bool} → header ≡ take 6 b → n ≡ get_or header 4 0 + 256 * get_or header 5 0 → 7 + n ≤ length b
+      → p ≡ take (7 + n) b
+      → right ≡ eqb (get_or p (length p - 1) 0) (checksum (take (length p - 1) p)) → Some (record { size = 7 + n; right = right }) ≡ next_in b
   unfolding next_in
-  next_at {n} {right} {p} e l f g =
-      let h : has_packet (drop at b) ≡ true = has_packet_lem (drop at b) (simp length-drop (omega arith)) (simp length-drop (omega (arith, size_at e))) in
-      let q : p ≡ take (size (drop at b)) (drop at b) = f ∙ ap (λ (i : ℕ). take i (drop at b)) (sym (size_at e)) in
-      rw (h, size_at e, g, right_at h q)
+  next_there {n} {header} {p} {right} h e l f g =
+      let s : size b ≡ 7 + n = size_of h e in
+      let w : has_packet b ≡ true = has_packet_lem b (omega (arith, l)) (omega (arith, l, s)) in
+      rw (w, s, g, right_at w (f ∙ ap (λ (i : ℕ). take i b) (sym s)))
