@@ -27,6 +27,8 @@ UNREAD = r"is not in scope|has no field|is no name|operand is missing|expected t
 # what it did not check since it cites a proof that fell
 GONE = r"has no field|is not in scope|has no `"
 FELL = r"was not admitted|was rejected"
+# an error's words: antt writes behind a long name, on a line of its own, that a record has no such field
+SAID = r"(.*(?:\n  has no .*)?)$"
 # what rt says of an edit that the prover refuses
 AS_IT_MUST = "refused, as it must be"
 UNREADABLE = "BAD EDIT: the prover cannot read the edited text, so no contract was tried"
@@ -52,7 +54,7 @@ def first_error(log):
 def unread(log, changed):
     """The first error of a text of src/, specs/ or a changed file that antt cannot read, where there is one: that
     such a text is false is said in other words."""
-    for error in re.finditer(r"^(?:\./)?(\S+?):\d+:\d+: error: (?:(`[^`]*`): )?(.*)$", log, re.M):
+    for error in re.finditer(r"^(?:\./)?(\S+?):\d+:\d+: error: (?:(`[^`]*`): )?" + SAID, log, re.M):
         file, name, said = error.groups()
         unnamed = not name and not re.search(FELL, said)
         if (file in changed or file.startswith(("src/", "specs/"))) and (unnamed or re.search(UNREAD, re.sub(r"`[^`]*`", "", said))):
@@ -127,8 +129,11 @@ def own_proofs(name, texts, path, line):
 def in_doubt(name, edit, word):
     """Whether what rt tells of a refused edit, the first error or else the first note, leaves open that the proof only
     became unfit. A goal that is noted on a function without proof files of its own can have lost none. What fell with
-    a theorem in a file that the edit changes rt takes for a text that cannot be read."""
+    a theorem in a file that the edit changes rt takes for a text that cannot be read, and it does not see that a
+    record has no such field where that is on the error's next line."""
     owned(name)
+    if re.match(rf"{AS_IT_MUST}: \S+: error: (?:`[^`]*`: )?record `", word):
+        return True
     if re.match(rf"({AS_IT_MUST}|{UNREADABLE}): \S+: error: \d+ declarations? that depends? on ", word):
         return True
     if not word.startswith(f"{AS_IT_MUST}: note: "):
@@ -145,7 +150,7 @@ def lost(name, texts, log):
     """What the proofs name that is gone, where a refusal rests on nothing else: goals and steps are named after the
     code, so an answer can fall whatever the changed program means, and a goal that has no answer then is noted. No
     error but of such names stands in the log, and each goal noted is of a function whose own proof files lost one."""
-    errors = re.findall(r"^(?:\./)?(\S+?):\d+:\d+: error: (.*)$", log, re.M)
+    errors = re.findall(r"^(?:\./)?(\S+?):\d+:\d+: error: " + SAID, log, re.M)
     gone = [said for file, said in errors if file.startswith("proofs/") and re.search(GONE, said)]
     if not gone or not all(re.search(f"{GONE}|{FELL}", said) for _, said in errors):
         return None
