@@ -6,6 +6,7 @@ use mathlib.Core.Bool.{true, false}
 use mathlib.Core.List.{List, [], ◌∷◌, ◌++◌}
 use native.Mathlib.Omega.{arith}
 use Rattle.std.specs.Prelude.{Option, Some}
+use Rattle.std.proofs.lemmas.Bool.{cond_both, and_from}
 use lib.Dec.{eqb, ltb}
 use lib.ListN.{length, take, drop, get_or, length-append}
 use lib.Seq.{take_at, drop_at}
@@ -16,7 +17,7 @@ use Rattle.packet.specs.Receiver.{Received}
 use Rattle.packet.specs.Stream.{packets}
 use Rattle.packet.specs.Writer.{written}
 use Rattle.packet.specs.Number.{bytes_of}
-use Rattle.packet.proofs.Cases.{bool_cases, cond_cases, and_both, or_left, or_right, never}
+use Rattle.packet.proofs.Cases.{bool_cases, false_or_left, false_or_right, never}
 use Rattle.command.specs.Table.{cmd1_for, cmd2_for, same, layout}
 use Rattle.command.specs.Settings.{store}
 use Rattle.command.specs.Rules.{wrong_byte}
@@ -130,8 +131,8 @@ module _ (t : Transfer) (p : Arrived) (none : (n : ℕ) → FirstFault t p n →
   -- flags that complete no write are 01 or 02
   part_flags : completes p.flags ≡ false → (p.flags ≡ beginning) ⊎ (p.flags ≡ intermediate)
   part_flags f =
-      let w = eqb-false p.flags whole (or_left _ _ f) in
-      let l = eqb-false p.flags last (or_right (eqb p.flags whole) _ f) in
+      let w = eqb-false p.flags whole (false_or_left _ _ f) in
+      let l = eqb-false p.flags last (false_or_right (eqb p.flags whole) _ f) in
       bool_cases (eqb p.flags beginning) (λ b. inl (eqb-true p.flags beginning b))
       (λ b. inr (known_flags w (eqb-false p.flags beginning b) l (λ o. none 0x0B (UnknownFlags o))))
     where
@@ -154,7 +155,7 @@ module _ (t : Transfer) (p : Arrived) (none : (n : ℕ) → FirstFault t p n →
       go (Opened b d) e =
           bool_cases (same c b) (λ s. rw (same_eq c b s))
           (λ s. absurd (none 0x0B (OpenForAnother b d f e
-          (λ n. never (sym s ∙ and_both _ _ (eq-eqb (cmd1_for c) (cmd1_for b) (sym k.0 ∙ n.0)) (eq-eqb (cmd2_for c) (cmd2_for b) (sym k.1 ∙ n.1)))))))
+          (λ n. never (sym s ∙ and_from _ _ (eq-eqb (cmd1_for c) (cmd1_for b) (sym k.0 ∙ n.0)) (eq-eqb (cmd2_for c) (cmd2_for b) (sym k.1 ∙ n.1)))))))
 
 -- A packet with no fault is accepted.
 module _ (a : State) (q : List ℕ) where
@@ -174,7 +175,7 @@ module _ (a : State) (q : List ℕ) where
     accepts_part f _ = go (part_flags a.transfer (arrived q) none f)
       where
         write : type_of q ≡ host_write
-        write = part_type a.transfer (arrived q) none (eqb-false (flags_of q) whole (or_left _ _ f))
+        write = part_type a.transfer (arrived q) none (eqb-false (flags_of q) whole (false_or_left _ _ f))
 
         go : (flags_of q ≡ beginning) ⊎ (flags_of q ≡ intermediate)
             → Accepted a q (write_response_to q) (record { settings = a.settings; transfer = Opened c (held a.transfer ++ payload q) })
@@ -242,8 +243,8 @@ module _ (c : Controller) (input out : List ℕ) where
   unfolding receive_call
   answers_by n m =
       let P : After → Type 0 = λ x. x.answer ≡ Answers n m → x ≡ answered c received out in
-      cond_cases P (ltb (length out) 64) (λ _ h. refuses h)
-      (λ _. cond_cases P (in_rule c) (λ _. cond_cases P received.complete (λ _ h. refl) (λ _ h. waits h)) (λ _ h. refuses h))
+      cond_both (ltb (length out) 64) _ _ P (λ _ h. refuses h)
+      (λ _. cond_both (in_rule c) _ _ P (λ _. cond_both received.complete _ _ P (λ _ h. refl) (λ _ h. waits h)) (λ _ h. refuses h))
     where
       refuses : {P : Type 0} {k : ℕ} → Refuses k ≡ Answers n m → P
       refuses h = let z : ◌≡◌ {A = ℕ} 0 1 = cc in absurd (omega arith)
@@ -263,8 +264,8 @@ module _ (c : Controller) (input out : List ℕ) where
   unfolding receive_call
   left_waiting n =
       let P : After → Type 0 = λ x. x.answer ≡ Waits n → (x.output ≡ out) × (state_of x.controller ≡ state_of c) in
-      cond_cases P (ltb (length out) 64) (λ _ h. refuses h)
-      (λ _. cond_cases P (in_rule c) (λ _. cond_cases P received.complete (λ _ h. answers h) (λ _ h. (refl, refl))) (λ _ h. refuses h))
+      cond_both (ltb (length out) 64) _ _ P (λ _ h. refuses h)
+      (λ _. cond_both (in_rule c) _ _ P (λ _. cond_both received.complete _ _ P (λ _ h. answers h) (λ _ h. (refl, refl))) (λ _ h. refuses h))
     where
       refuses : {P : Type 0} {k : ℕ} → Refuses k ≡ Waits n → P
       refuses h = let z : ◌≡◌ {A = ℕ} 0 1 = cc in absurd (omega arith)

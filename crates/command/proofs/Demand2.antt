@@ -14,7 +14,7 @@ use Rattle.packet.specs.Packet.{type_of, flags_of, packet_of, sealed, checksum, 
 use Rattle.packet.specs.Receiver.{Receiver, with, packet_in_rule}
 use Rattle.packet.specs.Stream.{size, has_packet, packets, rest}
 use Rattle.packet.specs.Writer.{written}
-use Rattle.packet.proofs.Cases.{bool_cases, and_left}
+use Rattle.packet.proofs.Cases.{bool_cases, true_and_left}
 use Rattle.packet.proofs.StreamLaws.{IsPacket, packets_cons, rest_cons, packets_none, first_packet, packets_nil, rest_nil}
 use Rattle.packet.proofs.ReceiverLaws.{with_nil}
 use Rattle.packet.proofs.WriterLaws.{packet_written}
@@ -166,7 +166,7 @@ blocked_run : (c : Command) (v : List ℕ) (mode : ℕ) → blocked c v mode ≡
 unfolding blocked packet_of sealed checksum sum bytes_of codes_of list_if
 blocked_run c v mode b =
     ap (λ (d : Command). packet_of error (cmd1_for d) (cmd2_for d) whole (codes_of mode_fault))
-    (same_eq c SequenceRun (and_left (same c SequenceRun) (eqb (get_or v 0 0) 1) (and_left (same c SequenceRun && eqb (get_or v 0 0) 1) (not (eqb mode 4)) b)))
+    (same_eq c SequenceRun (true_and_left (same c SequenceRun) (eqb (get_or v 0 0) 1) (true_and_left (same c SequenceRun && eqb (get_or v 0 0) 1) (not (eqb mode 4)) b)))
 
 module _ (v : Value) (out : List ℕ) (g : Legal v) (l : 64 ≤ length out) where
   abbrev p : List ℕ

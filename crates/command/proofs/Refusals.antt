@@ -13,7 +13,8 @@ use Rattle.packet.specs.Packet.{payload_length}
 use Rattle.packet.specs.Answer.{Refuses, Waits, Answers, Answering}
 use Rattle.packet.specs.Receiver.{packet_in_rule}
 use Rattle.packet.proofs.Answering.{answering, refusal_number, answers_not_refused, waits_not_refused, all_taken}
-use Rattle.packet.proofs.Cases.{bool_cases, cond_cases, and_left, and_right, or_left, or_right, and_cases, never}
+use Rattle.std.proofs.lemmas.Bool.{cond_both}
+use Rattle.packet.proofs.Cases.{bool_cases, true_and_left, true_and_right, false_or_left, false_or_right, false_and_cases, never}
 use Rattle.command.specs.Table.{table, command_of}
 use Rattle.command.specs.Settings.{values_of}
 use Rattle.command.specs.Rules.{allowed, blocked, all_allowed, settings_in_rule}
@@ -34,7 +35,7 @@ use Rattle.command.proofs.faults.Laws.{named, unnamed}
 one_not_allowed : (s : Settings) (cs : List Command) → all_allowed s cs ≡ false → SettingsOutOfRule s
 unfolding all_allowed
 one_not_allowed s [] h = never (sym h)
-one_not_allowed s (c ∷ cs) h = and_cases (allowed c (values_of c s)) (all_allowed s cs) (SettingNotAllowed c) (one_not_allowed s cs) h
+one_not_allowed s (c ∷ cs) h = false_and_cases (allowed c (values_of c s)) (all_allowed s cs) (SettingNotAllowed c) (one_not_allowed s cs) h
 
 pub settings_out : (s : Settings) → (settings_in_rule s ≡ false) ↔ SettingsOutOfRule s
 settings_out s = (forth, back)
@@ -42,10 +43,10 @@ settings_out s = (forth, back)
     forth : settings_in_rule s ≡ false → SettingsOutOfRule s
     forth h =
         unfold settings_in_rule blocked in
-        and_cases (all_allowed s table) (not (eqb s.run 1 && not (eqb s.mode 4))) (one_not_allowed s table)
+        false_and_cases (all_allowed s table) (not (eqb s.run 1 && not (eqb s.mode 4))) (one_not_allowed s table)
         (λ n.
         let r = not-false _ n in
-        RunsOutsideMode (eqb-true s.run 1 (and_left _ _ r)) (eqb-false s.mode 4 (not-true _ (and_right (eqb s.run 1) _ r))))
+        RunsOutsideMode (eqb-true s.run 1 (true_and_left _ _ r)) (eqb-false s.mode 4 (not-true _ (true_and_right (eqb s.run 1) _ r))))
         h
 
     back : SettingsOutOfRule s → settings_in_rule s ≡ false
@@ -62,14 +63,14 @@ controller_out c = (forth, back)
         let t = transfer_of c.registers in
         let room = 7 + payload_length c.registers.header in
         let unknown = eqb t.active 0 || is_some (command_of t.cmd1 t.cmd2) in
-        and_cases (settings_in_rule c.settings && (leb t.held 1024 && unknown)) (ltb c.registers.received room)
-        (and_cases (settings_in_rule c.settings) (leb t.held 1024 && unknown)
+        false_and_cases (settings_in_rule c.settings && (leb t.held 1024 && unknown)) (ltb c.registers.received room)
+        (false_and_cases (settings_in_rule c.settings) (leb t.held 1024 && unknown)
         (λ n. BadSettings ((settings_out c.settings).0 n))
-        (and_cases (leb t.held 1024) unknown
+        (false_and_cases (leb t.held 1024) unknown
         (λ n. HeldTooLong (leb-false t.held 1024 n))
         (λ n.
-        OpenForUnknown (eqb-false t.active 0 (or_left (eqb t.active 0) _ n))
-        (λ d k. never (sym (or_right (eqb t.active 0) _ n) ∙ ap is_some (named t.cmd1 t.cmd2 d k))))))
+        OpenForUnknown (eqb-false t.active 0 (false_or_left (eqb t.active 0) _ n))
+        (λ d k. never (sym (false_or_right (eqb t.active 0) _ n) ∙ ap is_some (named t.cmd1 t.cmd2 d k))))))
         (λ n. HasAllBytes (ltb-false c.registers.received room n))
         h
 
@@ -95,7 +96,7 @@ receive_refuses c input out =
     (λ x. x.answer ≡ cond t.complete (Answers t.taken (length (response_in c t))) (Waits (length input))) (refused 1 c out) (refused 3 c out)
     (cond t.complete (answered c t out) (waiting c t out)) out 64 3
     (refusal_number 1) (refusal_number 3)
-    (λ n. cond_cases (λ (x : After). x.answer ≡ Refuses n → ⊥) t.complete (λ _ h. answers_not_refused h) (λ _ h. waits_not_refused h))
+    (λ n. cond_both t.complete _ _ (λ (x : After). x.answer ≡ Refuses n → ⊥) (λ _ h. answers_not_refused h) (λ _ h. waits_not_refused h))
     (λ h. omega arith) (refl, refl) (refl, refl)
     (bool_cases t.complete (λ e. rw e) (λ e. rw (e, all_taken 0 (receiver_in c) input e))) (in_rule c) (controller_out c)
 

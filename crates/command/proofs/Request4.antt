@@ -1,5 +1,6 @@
 -- Request 4, proved: the byte that the value check names, what the receive call reports, and where playing offends (proofs/player/Offences).
 use Rattle.std.specs.Prelude.{is_none, Option, None, Some}
+use Rattle.std.proofs.lemmas.Bool.{cond_both, and_from, or_right}
 use Prim.Native.Nat.{ℕ, zero, suc, ◌<◌, ◌≤◌}
 use mathlib.Core.Path.{◌≡◌, refl, ap, ap₂, sym, ◌∙◌}
 use mathlib.Core.Logic.{◌↔◌, inl, inr}
@@ -12,7 +13,7 @@ use lib.Seq.{get_or-take, take_at}
 use borrow.Author.Tests.{eq-eqb, eqb-true, eqb-false, le-leb, leb-true, not-true}
 use Rattle.packet.specs.Calls.{Served}
 use Rattle.packet.specs.Writer.{written}
-use Rattle.packet.proofs.Cases.{cond_cases, and_left, and_right, and_both, or_cases, or_that, never}
+use Rattle.packet.proofs.Cases.{true_and_left, true_and_right, true_or_cases, never}
 use Rattle.command.specs.Table.{command_of, layout}
 use Rattle.command.specs.Rules.{within, most_patterns, Field, field, fields_of, all_valid, first_wrong, allowed, wrong_byte}
 use Rattle.command.specs.Data.{split_all}
@@ -106,26 +107,26 @@ fails false f h = refl
 
 module _ (a b n : ℕ) where
   inside : (a ≤ n) × (n ≤ b) → within a b n ≡ true
-  inside h = and_both _ _ (le-leb a n h.0) (le-leb n b h.1)
+  inside h = and_from _ _ (le-leb a n h.0) (le-leb n b h.1)
 
   is_inside : within a b n ≡ true → (a ≤ n) × (n ≤ b)
-  is_inside h = (leb-true a n (and_left _ _ h), leb-true n b (and_right (leb a n) _ h))
+  is_inside h = (leb-true a n (true_and_left _ _ h), leb-true n b (true_and_right (leb a n) _ h))
 
 module _ (depth : ℕ) where
   inversion_right : (n : ℕ) → Inversion depth n → (leb n 2 && (eqb n 0 || eqb depth 1)) ≡ true
-  inversion_right n (l, inl z) = and_both _ _ (le-leb n 2 l) (rw z)
-  inversion_right n (l, inr o) = and_both _ _ (le-leb n 2 l) (or_that (eqb n 0) _ (eq-eqb depth 1 o))
+  inversion_right n (l, inl z) = and_from _ _ (le-leb n 2 l) (rw z)
+  inversion_right n (l, inr o) = and_from _ _ (le-leb n 2 l) (or_right (eqb n 0) _ (eq-eqb depth 1 o))
 
   is_inversion : (n : ℕ) → (leb n 2 && (eqb n 0 || eqb depth 1)) ≡ true → Inversion depth n
   is_inversion n h = (
-    leb-true n 2 (and_left _ _ h),
-    or_cases (eqb n 0) (eqb depth 1) (λ z. inl (eqb-true n 0 z)) (λ o. inr (eqb-true depth 1 o)) (and_right (leb n 2) _ h),
+    leb-true n 2 (true_and_left _ _ h),
+    true_or_cases (eqb n 0) (eqb depth 1) (λ z. inl (eqb-true n 0 z)) (λ o. inr (eqb-true depth 1 o)) (true_and_right (leb n 2) _ h),
   )
 
   is_trigger : (n : ℕ) → (leb n 6 && (not (eqb n 6) || eqb depth 1)) ≡ true → Trigger depth n
   is_trigger n h = (
-    leb-true n 6 (and_left _ _ h),
-    or_cases (not (eqb n 6)) (eqb depth 1) (λ z. inl (eqb-false n 6 (not-true _ z))) (λ o. inr (eqb-true depth 1 o)) (and_right (leb n 6) _ h),
+    leb-true n 6 (true_and_left _ _ h),
+    true_or_cases (not (eqb n 6)) (eqb depth 1) (λ z. inl (eqb-false n 6 (not-true _ z))) (λ o. inr (eqb-true depth 1 o)) (true_and_right (leb n 6) _ h),
   )
 
   depth_wrong : (others : List ℕ) → (Depth depth → ⊥) → wrong_byte PatternSequence (depth ∷ others) ≡ Some 0
@@ -184,7 +185,7 @@ first_named (f ∷ fs) n h = go f.valid refl h (first_named fs n)
 wrong_after : (before : List Field) (f : Field) (behind : List Field) → all_valid before ≡ true → f.valid ≡ false
     → first_wrong (before ++ (f ∷ behind)) ≡ Some f.byte
 wrong_after [] f behind h e = rw e
-wrong_after (g ∷ before) f behind h e = rw (and_left g.valid _ h) (wrong_after before f behind (and_right g.valid _ h) e)
+wrong_after (g ∷ before) f behind h e = rw (true_and_left g.valid _ h) (wrong_after before f behind (true_and_right g.valid _ h) e)
 
 named_first : (fs : List Field) (n : ℕ) → FirstNotAllowed fs n → first_wrong fs ≡ Some n
 named_first fs n r =
@@ -293,8 +294,8 @@ module _ (c : Controller) (input out : List ℕ) where
   unfolding receive_call
   reporting n =
       let P : After → Type 0 = λ x. x.wrong ≡ Some n → x ≡ answered c (taken_by c input) out in
-      cond_cases P (ltb (length out) 64) (λ _ h. none_some h)
-      (λ _. cond_cases P (in_rule c) (λ _. cond_cases P (taken_by c input).complete (λ _ h. refl) (λ _ h. none_some h)) (λ _ h. none_some h))
+      cond_both (ltb (length out) 64) _ _ P (λ _ h. none_some h)
+      (λ _. cond_both (in_rule c) _ _ P (λ _. cond_both (taken_by c input).complete _ _ P (λ _ h. refl) (λ _ h. none_some h)) (λ _ h. none_some h))
 
   drawn : receive_call c input out ≡ answered c (taken_by c input) out → IsError judgement (0x03 ∷ []) → Draws03 c input out
   unfolding response_in judged_in written

@@ -2,8 +2,9 @@
 use Rattle.std.proofs.Common.{◌≡◌, ℕ, ◌+◌, ◌<◌, Bool, false, not, ◌&&◌, ◌||◌, eqb, ltb, ◌↔◌, ◌⊎◌, List, [], ◌∷◌, get_or, take, sym, refl, ap, ◌∙◌, subst, inl, inr, ltb-false, le-ltb, eqb-true}
 use Rattle.std.specs.Prelude.{Option, None, Some, Result, Ok, Err, Decides}
 use Rattle.std.proofs.lemmas.Bool.Decides.{same_from_decides, Decides-at, Decides-like, Decides-not, Decides-and, Decides-or, Decides-ltb, Decides-eqb}
+use Rattle.std.proofs.lemmas.Bool.{cond_both}
 use Rattle.packet.specs.Packet.{payload_length, payload}
-use Rattle.packet.proofs.Cases.{cond_cases, bool_cases}
+use Rattle.packet.proofs.Cases.{bool_cases}
 use Rattle.dlpc200.specs.Packet.{cmd1_of, cmd2_of, cmd4_of, id_of, write, read, extended, only, checksum, right_sum}
 use Rattle.dlpc200.specs.Table.{table, id_for, cmd1_for, size_for, find, command_of}
 use Rattle.dlpc200.specs.Status.{any_fault, no_faults}
@@ -20,7 +21,7 @@ known_id : (id : ℕ) (cs : List Command) (c : Command) → find id cs ≡ Some 
 unfolding find
 known_id id [] c h = cc
 known_id id (x ∷ cs) c h =
-    cond_cases (λ (f : Option Command). f ≡ Some c → id ≡ id_for c) (eqb id (id_for x))
+    cond_both (eqb id (id_for x)) _ _ (λ (f : Option Command). f ≡ Some c → id ≡ id_for c)
     (λ e h. let k : x ≡ c = cc in eqb-true id (id_for x) e ∙ ap id_for k)
     (λ e h. known_id id cs c h)
     h
@@ -35,7 +36,7 @@ names_known p c = (forth, back)
   where
     forth : (arrived p).command ≡ Some c → Names p c
     forth =
-        cond_cases (λ (f : Option Command). f ≡ Some c → Names p c) (ltb (payload_length p) 2)
+        cond_both (ltb (payload_length p) 2) _ _ (λ (f : Option Command). f ≡ Some c → Names p c)
         (λ e h. cc)
         (λ e h. (ltb-false (payload_length p) 2 e, known_id (id_of (payload p)) table c h))
 
@@ -143,7 +144,7 @@ module _ (p : List ℕ) where
       forth : judge (arrived p) ≡ Err f → FaultsHold p f × Fails p f
       forth =
           unfold judge in
-          cond_cases (λ (j : Result Command Faults). j ≡ Err f → FaultsHold p f × Fails p f) (any_fault found)
+          cond_both (any_fault found) _ _ (λ (j : Result Command Faults). j ≡ Err f → FaultsHold p f × Fails p f)
           (λ n h. let k : found ≡ f = cc in (subst (FaultsHold p) k (faults_hold p), HasFault (sym (ap any_fault k) ∙ n)))
           (λ n h. failed_unknown f (arrived p).command refl n h)
 

@@ -1,10 +1,11 @@
 -- When the receive call refuses: the tests are the words of ticket 1, and a refusal touches nothing lent.
 use Rattle.std.proofs.Common.{◌≡◌, ℕ, ◌+◌, false, cond, ◌&&◌, ltb, leb, ◌↔◌, List, length, refl, arith, ltb-false, leb-false}
 use Rattle.std.proofs.lemmas.Bool.Decides.{nat_tests}
+use Rattle.std.proofs.lemmas.Bool.{cond_both}
 use Rattle.packet.specs.Packet.{payload_length}
 use Rattle.packet.specs.Answer.{Refuses, Waits, Answers, Answering}
 use Rattle.packet.specs.Receiver.{packet_in_rule}
-use Rattle.packet.proofs.Cases.{bool_cases, cond_cases, and_cases}
+use Rattle.packet.proofs.Cases.{bool_cases, false_and_cases}
 use Rattle.packet.proofs.Answering.{answering, refusal_number, all_taken}
 use Rattle.dlpc200.specs.Packet.{after_cmd4}
 use Rattle.dlpc200.specs.States.{in_range}
@@ -24,10 +25,10 @@ states_out s = (forth, back)
         let sequence = leb s.sequence 1 in
         let eeprom = leb s.eeprom 1 in
         let flash = leb s.flash 7 in
-        and_cases (park && sequence && eeprom && flash) (leb s.lit 1)
-        (and_cases (park && sequence && eeprom) flash
-        (and_cases (park && sequence) eeprom
-        (and_cases park sequence (λ n. ParkOut (leb-false s.park 1 n)) (λ n. SequenceOut (leb-false s.sequence 1 n)))
+        false_and_cases (park && sequence && eeprom && flash) (leb s.lit 1)
+        (false_and_cases (park && sequence && eeprom) flash
+        (false_and_cases (park && sequence) eeprom
+        (false_and_cases park sequence (λ n. ParkOut (leb-false s.park 1 n)) (λ n. SequenceOut (leb-false s.sequence 1 n)))
         (λ n. EepromOut (leb-false s.eeprom 1 n)))
         (λ n. FlashOut (leb-false s.flash 7 n)))
         (λ n. LitOut (leb-false s.lit 1 n))
@@ -47,7 +48,7 @@ device_out d = (forth, back)
   where
     forth : in_rule d ≡ false → OutOfRule d
     forth h =
-        and_cases (in_range d.states) (ltb d.received (7 + payload_length d.header))
+        false_and_cases (in_range d.states) (ltb d.received (7 + payload_length d.header))
         (λ n. BadState ((states_out d.states).0 n))
         (λ n. HasAllBytes (ltb-false d.received (7 + payload_length d.header) n))
         h
@@ -68,6 +69,6 @@ receive_refuses d input out =
     (λ x. x.answer ≡ cond t.complete (Answers t.taken (length (response_in d.states t))) (Waits (length input))) (refused 1 d out) (refused 3 d out)
     (ended d.states t out) out 64 3
     (λ n. refusal_number 1 n) (λ n. refusal_number 3 n)
-    (λ n. cond_cases (λ (x : After). x.answer ≡ Refuses n → ⊥) t.complete (λ _ h. cc) (λ _ h. cc))
+    (λ n. cond_both t.complete _ _ (λ (x : After). x.answer ≡ Refuses n → ⊥) (λ _ h. cc) (λ _ h. cc))
     (λ h. omega arith) (refl, refl) (refl, refl)
     (bool_cases t.complete (λ e. rw e) (λ e. rw (e, all_taken after_cmd4 (receiver_of d) input e))) (in_rule d) (device_out d)

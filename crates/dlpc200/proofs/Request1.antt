@@ -1,10 +1,11 @@
 -- Ticket 1.
 use Rattle.std.proofs.Common.{◌≡◌, ℕ, ltb, ◌⊎◌, List, [], ◌∷◌, ◌++◌, length, get_or, take, drop, sym, refl, ap, ◌∙◌, subst, append-nil, arith, take_at, drop_at}
+use Rattle.std.proofs.lemmas.Bool.{cond_both}
 use Rattle.packet.specs.Answer.{Waits, Answers}
 use Rattle.packet.specs.Receiver.{Received}
 use Rattle.packet.specs.Stream.{packets}
 use Rattle.packet.specs.Writer.{written}
-use Rattle.packet.proofs.Cases.{bool_cases, cond_cases}
+use Rattle.packet.proofs.Cases.{bool_cases}
 use Rattle.packet.proofs.Calls.{sent_same}
 use Rattle.packet.proofs.StreamLaws.{IsPacket, packets_nil, packets_cons}
 use Rattle.dlpc200.specs.Packet.{read_resp, packet_of}
@@ -63,23 +64,23 @@ module _ (d : Device) (input out : List ℕ) where
   unfolding receive_call
   left_waiting n =
       let P : After → Type 0 = λ x. x.answer ≡ Waits n → (x.output ≡ out) × (x.device.states ≡ d.states) in
-      cond_cases P (ltb (length out) 64) (λ _ h. cc)
-      (λ _. cond_cases P (in_rule d) (λ _. cond_cases P received.complete (λ _ h. cc) (λ _ h. (refl, refl))) (λ _ h. cc))
+      cond_both (ltb (length out) 64) _ _ P (λ _ h. cc)
+      (λ _. cond_both (in_rule d) _ _ P (λ _. cond_both received.complete _ _ P (λ _ h. cc) (λ _ h. (refl, refl))) (λ _ h. cc))
 
   others_kept : OthersStay d.states (receive_call d input out).device.states
   unfolding receive_call
   others_kept =
       let P : After → Type 0 = λ x. OthersStay d.states x.device.states in
       let same : OthersStay d.states d.states = record { sequence = refl; eeprom = refl; flash = refl; lit = refl } in
-      cond_cases P (ltb (length out) 64) (λ _. same)
-      (λ _. cond_cases P (in_rule d) (λ _. cond_cases P received.complete (λ _. others_stay d.states (judged_in received)) (λ _. same)) (λ _. same))
+      cond_both (ltb (length out) 64) _ _ P (λ _. same)
+      (λ _. cond_both (in_rule d) _ _ P (λ _. cond_both received.complete _ _ P (λ _. others_stay d.states (judged_in received)) (λ _. same)) (λ _. same))
 
   answers_by : (n m : ℕ) → (receive_call d input out).answer ≡ Answers n m → receive_call d input out ≡ answered d.states received out
   unfolding receive_call
   answers_by n m =
       let P : After → Type 0 = λ x. x.answer ≡ Answers n m → x ≡ answered d.states received out in
-      cond_cases P (ltb (length out) 64) (λ _ h. cc)
-      (λ _. cond_cases P (in_rule d) (λ _. cond_cases P received.complete (λ _ h. refl) (λ _ h. cc)) (λ _ h. cc))
+      cond_both (ltb (length out) 64) _ _ P (λ _ h. cc)
+      (λ _. cond_both (in_rule d) _ _ P (λ _. cond_both received.complete _ _ P (λ _ h. refl) (λ _ h. cc)) (λ _ h. cc))
 
   answer_length : (n m : ℕ) → (receive_call d input out).answer ≡ Answers n m → m ≡ length (response_in d.states received)
   answer_length n m h = let e = sym h ∙ ap (λ (x : After). x.answer) (answers_by n m h) in cc

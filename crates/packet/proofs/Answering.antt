@@ -1,8 +1,9 @@
 -- How a call refuses that tests its output's length first and one thing more: the law behind `Answering`; and what the numbers of a receive call's answers tell apart, and say.
 use Rattle.std.proofs.Common.{◌≡◌, ℕ, Bool, true, false, cond, eqb, ltb, ◌↔◌, List, length, sym, refl, ◌∙◌, inl, inr, arith, ltb-false, ltb-true}
+use Rattle.std.proofs.lemmas.Bool.{cond_both}
 use Rattle.packet.specs.Answer.{Outcome, Refuses, Waits, Answers, outcome_told, Told, Answering}
 use Rattle.packet.specs.Receiver.{Receiver, Received, missing, waiting, completed, receiving}
-use Rattle.packet.proofs.Cases.{cond_cases, never}
+use Rattle.packet.proofs.Cases.{never}
 
 -- A call answers `short` where the output is too short, else `good` or, where its second test fails, `bad`.
 module _ {A : Type 0} (Refused : A → ℕ → Type 0) (Untouched Answered : A → Type 0) (short bad good : A) (out : List ℕ) (shortest second : ℕ) {Holds : Type 0}
@@ -64,4 +65,4 @@ numbers_say (Answers n m) h t = rw (t.refused, t.count, t.response, h)
 -- a receiver that completes no packet takes all bytes
 pub all_taken : (k : ℕ) (r : Receiver) (b : List ℕ) → (receiving k r b).complete ≡ false → (receiving k r b).taken ≡ length b
 unfolding receiving waiting completed
-all_taken k r b = cond_cases (λ (x : Received). x.complete ≡ false → x.taken ≡ length b) (ltb (length b) (missing r b)) (λ _ _. refl) (λ _ h. never (sym h))
+all_taken k r b = cond_both (ltb (length b) (missing r b)) _ _ (λ (x : Received). x.complete ≡ false → x.taken ≡ length b) (λ _ _. refl) (λ _ h. never (sym h))

@@ -1,10 +1,8 @@
--- Case splits on tests, and on the order of two numbers.
-use Rattle.std.proofs.Common.{◌≡◌, ℕ, ◌<◌, ◌≤◌, Bool, true, false, cond, ◌&&◌, ◌||◌, ltb, refl, arith, ltb-false, ltb-true}
-
--- what holds of both branches holds of the choice
-pub cond_cases : {A : Type 0} (P : A → Type 0) (b : Bool) {x y : A} → (b ≡ true → P x) → (b ≡ false → P y) → P (cond b x y)
-cond_cases P true f g = f refl
-cond_cases P false f g = g refl
+-- Case splits on tests, and on the order of two numbers. A name that begins with the value of an `and` or an `or`
+-- is of what follows from that value; those of std (lemmas.Bool) go the other way, or give a sum.
+use mathlib.Core.Logic.{⊎_elim}
+use Rattle.std.proofs.Common.{◌≡◌, ℕ, ◌<◌, ◌≤◌, Bool, true, false, ◌&&◌, ◌||◌, refl}
+use Rattle.std.proofs.lemmas.Bool.{false≢true, and_from, and_parts, or_parts, and_cases, or_cases, cases_lt}
 
 -- the two values of a test
 pub bool_cases : {P : Type 0} (b : Bool) → (b ≡ true → P) → (b ≡ false → P) → P
@@ -13,46 +11,38 @@ bool_cases false f g = g refl
 
 -- which no test has at once
 pub never : {P : Type 0} → ◌≡◌ {A = Bool} false true → P
-never h = let z : ◌≡◌ {A = ℕ} 0 1 = cc in absurd (omega arith)
+never h = absurd (false≢true h)
 
 -- the two orders of numbers
 pub lt_cases : {P : Type 0} (m n : ℕ) → (m < n → P) → (n ≤ m → P) → P
-lt_cases m n f g = bool_cases (ltb m n) (λ e. f (ltb-true m n e)) (λ e. g (ltb-false m n e))
+lt_cases m n f g = ⊎_elim f g (cases_lt m n)
 
-pub and_left : (a b : Bool) → (a && b) ≡ true → a ≡ true
-and_left true b h = refl
-and_left false b h = h
+-- the parts of a conjunction that holds, and of a disjunction that fails
+pub true_and_left : (a b : Bool) → (a && b) ≡ true → a ≡ true
+true_and_left a b h = (and_parts a b h).0
 
-pub and_right : (a b : Bool) → (a && b) ≡ true → b ≡ true
-and_right true b h = h
-and_right false b h = absurd_ft h
-  where
-    absurd_ft : ◌≡◌ {A = Bool} false true → b ≡ true
-    absurd_ft e = cc
+pub true_and_right : (a b : Bool) → (a && b) ≡ true → b ≡ true
+true_and_right a b h = (and_parts a b h).1
 
-pub and_both : (a b : Bool) → a ≡ true → b ≡ true → (a && b) ≡ true
-and_both a b p q = cc
+pub false_or_left : (a b : Bool) → (a || b) ≡ false → a ≡ false
+false_or_left a b h = (or_parts a b h).0
 
-pub or_left : (a b : Bool) → (a || b) ≡ false → a ≡ false
-or_left true b h = h
-or_left false b h = refl
-
-pub or_right : (a b : Bool) → (a || b) ≡ false → b ≡ false
-or_right true b h = absurd_tf h
-  where
-    absurd_tf : ◌≡◌ {A = Bool} true false → b ≡ false
-    absurd_tf e = cc
-or_right false b h = h
+pub false_or_right : (a b : Bool) → (a || b) ≡ false → b ≡ false
+false_or_right a b h = (or_parts a b h).1
 
 -- which part of a disjunction holds, or of a conjunction fails
-pub or_cases : {P : Type 0} (a b : Bool) → (a ≡ true → P) → (b ≡ true → P) → (a || b) ≡ true → P
-or_cases true b f g h = f refl
-or_cases false b f g h = g h
+pub true_or_cases : {P : Type 0} (a b : Bool) → (a ≡ true → P) → (b ≡ true → P) → (a || b) ≡ true → P
+true_or_cases a b f g h = ⊎_elim f g (or_cases a b h)
 
-pub and_cases : {P : Type 0} (a b : Bool) → (a ≡ false → P) → (b ≡ false → P) → (a && b) ≡ false → P
-and_cases true b f g h = g h
-and_cases false b f g h = f refl
+pub false_and_cases : {P : Type 0} (a b : Bool) → (a ≡ false → P) → (b ≡ false → P) → (a && b) ≡ false → P
+false_and_cases a b f g h = ⊎_elim f g (and_cases a b h)
 
-pub or_that : (a b : Bool) → b ≡ true → (a || b) ≡ true
-or_that true b h = refl
-or_that false b h = h
+-- Three more names of the above, and of `and_from`, for command's proofs of its controller and player.
+pub and_left : (a b : Bool) → (a && b) ≡ true → a ≡ true
+and_left = true_and_left
+
+pub and_right : (a b : Bool) → (a && b) ≡ true → b ≡ true
+and_right = true_and_right
+
+pub and_both : (a b : Bool) → a ≡ true → b ≡ true → (a && b) ≡ true
+and_both = and_from

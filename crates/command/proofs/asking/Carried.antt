@@ -4,6 +4,7 @@ use mathlib.Core.Path.{◌≡◌, refl, ap, ap₂, sym, subst, ◌∙◌}
 use mathlib.Core.Bool.{Bool, true, false, not, ◌&&◌, ◌||◌, and-false}
 use mathlib.Core.List.{List, [], ◌∷◌, ◌++◌, map, append-nil, append_assoc}
 use Rattle.std.specs.Prelude.{Option, None, Some}
+use Rattle.std.proofs.lemmas.Bool.{cond_both, and_from}
 use native.Mathlib.Omega.{arith}
 use lib.Dec.{eqb}
 use lib.ListN.{length, take, drop, length-append}
@@ -13,7 +14,7 @@ use Rattle.packet.specs.Answer.{Answers}
 use Rattle.packet.specs.Packet.{type_of, cmd1_of, cmd2_of, payload_length, payload, host_read}
 use Rattle.packet.specs.Stream.{size}
 use Rattle.packet.specs.Writer.{written}
-use Rattle.packet.proofs.Cases.{bool_cases, cond_cases, lt_cases, and_both}
+use Rattle.packet.proofs.Cases.{bool_cases, lt_cases}
 use Rattle.packet.proofs.StreamLaws.{IsPacket, payload_length_lem, has_packet_lem}
 use Rattle.command.specs.Table.{command_of, layout, size_of}
 use Rattle.command.specs.Rules.{wrong_byte}
@@ -147,7 +148,7 @@ module _ (c : Controller) (k : Ready c) (p : List ℕ) (lent : JudgementRecord) 
     error_means : meant (record_for (Error codes)) ≡ Error (codes_alone codes)
     unfolding meant
     error_means =
-        cond_cases (λ m. m ≡ Error (codes_told (mask_of codes))) (eqb (mask_of codes) 0)
+        cond_both (eqb (mask_of codes) 0) _ _ (λ m. m ≡ Error (codes_told (mask_of codes)))
         (λ e. no_codes (command_of (cmd1_of p) (cmd2_of p)) ∙ ap (λ (n : ℕ). Error (codes_told n)) (sym (eqb-true (mask_of codes) 0 e)))
         (λ _. refl)
         ∙ ap Error (mask_told codes)
@@ -174,13 +175,13 @@ module _ (c : Controller) (k : Ready c) (p : List ℕ) (lent : JudgementRecord) 
         let s = held_same c k in
         let l : length (data_for held_data (payload p) j) ≡ held_in numbers + payload_length p =
         ap length x ∙ length-append held_data (payload p) ∙ omega (arith, s, payload_length_lem p i.exact) in
-        let kept : kept_in_rule (record_for j) ≡ true = and_both _ _ ((kept_by c.settings q.settings).values DisplayMode) q.transfer in
+        let kept : kept_in_rule (record_for j) ≡ true = and_from _ _ ((kept_by c.settings q.settings).values DisplayMode) q.transfer in
         let joined : joined_in_rule (record_for j) ≡ true =
-        and_both _ _ (le-leb (held_in numbers) (length (data_for held_data (payload p) j)) (omega (arith, l)))
+        and_from _ _ (le-leb (held_in numbers) (length (data_for held_data (payload p) j)) (omega (arith, l)))
         (le-leb (length (data_for held_data (payload p) j)) 1024 (omega (arith, l, f, s))) in
         let draws : drawable (record_for j) ≡ true =
-        and_both _ _
-        (and_both _ _ (and_both _ _ (and_both _ _ (eq-eqb (mask_in j) 0 m) (ap (λ (o : Option ℕ). eqb (wrong_told o) no_wrong) w)) kept) joined)
+        and_from _ _
+        (and_from _ _ (and_from _ _ (and_from _ _ (eq-eqb (mask_in j) 0 m) (ap (λ (o : Option ℕ). eqb (wrong_told o) no_wrong) w)) kept) joined)
         (ap (λ (f : Option Command). acceptable f (record_for j)) e ∙ g) in
         record {
           means = rw (m, e) a;
@@ -193,11 +194,11 @@ module _ (c : Controller) (k : Ready c) (p : List ℕ) (lent : JudgementRecord) 
     asks_only_lem : eqb (type_of p) host_read ≡ true → eqb (length (held_data ++ payload p)) 0 ≡ true → asks_only d (record_for (Read d)) ≡ true
     asks_only_lem r z =
         let a = reads_alone d (state_of c).transfer (arrived p) n r in
-        and_both _ _ (and_both _ _ (ap (λ (t : Transfer). not (is_open t)) (open_kept_lem (Read d)) ∙ ap not a.0) a.1) z
+        and_from _ _ (and_from _ _ (ap (λ (t : Transfer). not (is_open t)) (open_kept_lem (Read d)) ∙ ap not a.0) a.1) z
 
     may_write : length (held_data ++ payload p) ≡ size_of d → Writable c.settings.mode d (split_all (layout d) (held_data ++ payload p))
         → writable d c.settings.mode (held_data ++ payload p) ≡ true
-    may_write l w = and_both _ _ (and_both _ _ (eq-eqb (length (held_data ++ payload p)) (size_of d) l) w.values) (ap not w.free)
+    may_write l w = and_from _ _ (and_from _ _ (eq-eqb (length (held_data ++ payload p)) (size_of d) l) w.values) (ap not w.free)
 
   genuine : IsPacket p → Genuine (judged (state_of c) p)
   unfolding judged codes_of list_if
@@ -219,7 +220,7 @@ module _ (c : Controller) (k : Ready c) (p : List ℕ) (lent : JudgementRecord) 
             let v = Write (value_from d (split_all (layout d) b)) in
             accepted_genuine i d e n v refl refl refl
             (ap (λ (x : List ℕ). Write (value_from d (split_all (layout d) x))) (joined_is v))
-            (and_both _ _ (continues_own i d e n v) (ap (writable d c.settings.mode) (joined_is v) ∙ may_write i d e n l w));
+            (and_from _ _ (continues_own i d e n v) (ap (writable d c.settings.mode) (joined_is v) ∙ may_write i d e n l w));
       })
     where
       some_code : (l : List ℕ) → (l ≡ [] → ⊥) → is_nil l ≡ false
@@ -230,7 +231,7 @@ module _ (c : Controller) (k : Ready c) (p : List ℕ) (lent : JudgementRecord) 
 
 pub one_packet_lem : (p : List ℕ) → IsPacket p → one_packet p ≡ true
 unfolding one_packet
-one_packet_lem p i = and_both _ _ (has_packet_lem p i.least (omega (arith, i.exact))) (eq-eqb (size p) (length p) i.exact)
+one_packet_lem p i = and_from _ _ (has_packet_lem p i.least (omega (arith, i.exact))) (eq-eqb (size p) (length p) i.exact)
 
 judge_is : (c : Controller) (p : List ℕ) (lent : JudgementRecord) → Ready c → OnePacket p → judge_call c p lent ≡ judged_as c p (judged (state_of c) p) lent
 unfolding judge_call

@@ -4,6 +4,7 @@ use mathlib.Core.Path.{◌≡◌, refl, ap, sym, ◌∙◌}
 use mathlib.Core.Bool.{Bool, true, false, cond, not, ◌&&◌, ◌||◌, and-false}
 use mathlib.Core.List.{List, [], ◌∷◌, ◌++◌}
 use Rattle.std.specs.Prelude.{Option, None, Some}
+use Rattle.std.proofs.lemmas.Bool.{cond_both}
 use native.Mathlib.Omega.{arith}
 use lib.Dec.{eqb, leb}
 use lib.ListN.{length, take, length-drop, take-append-drop}
@@ -13,7 +14,7 @@ use Rattle.packet.specs.Number.{Bytes, bytes_of}
 use Rattle.packet.specs.Packet.{payload, sum, checksum, sealed, packet_of, host_write, host_read, whole, beginning, intermediate, last}
 use Rattle.packet.specs.Receiver.{packet_in_rule}
 use Rattle.packet.specs.Writer.{written}
-use Rattle.packet.proofs.Cases.{cond_cases, and_left, and_right, never}
+use Rattle.packet.proofs.Cases.{true_and_left, true_and_right, never}
 use Rattle.packet.proofs.NumberLaws.{bytes_append, bytes_take, bytes_drop, bytes_bytes}
 use Rattle.packet.proofs.WriterLaws.{packet_written, payload_written}
 use Rattle.command.specs.Table.{cmd1_for, cmd2_for, layout, size_of, readable}
@@ -82,13 +83,13 @@ keeper_ready : (j : JudgementRecord) → Made j → kept_in_rule j ≡ true → 
 keeper_ready j m k =
     let v : List ℕ = j.ruling.kept.mode ∷ [] in
     let w : Writable factory.mode DisplayMode v =
-    record { full = refl; values = and_left _ (transfer_in_rule (transfer_kept j)) k; free = unfold blocked in refl } in
+    record { full = refl; values = true_and_left _ (transfer_in_rule (transfer_kept j)) k; free = unfold blocked in refl } in
     record {
       rule =
           rule_whole _ _
           (record {
             settings = in_rule_of (store DisplayMode v factory) (kept_store DisplayMode v factory kept_factory w);
-            transfer = and_right (allowed DisplayMode v) _ k;
+            transfer = true_and_right (allowed DisplayMode v) _ k;
             packet = unfold packet_in_rule in refl;
           });
       header = refl;
@@ -138,13 +139,13 @@ module _ (j : JudgementRecord) (m : Made j) (z : j.ruling.codes ≡ 0) (v : j.ru
   numbers = transfer_kept j
 
   in_rule_lem : transfer_in_rule numbers ≡ true
-  in_rule_lem = and_right (allowed DisplayMode (j.ruling.kept.mode ∷ [])) _ k
+  in_rule_lem = true_and_right (allowed DisplayMode (j.ruling.kept.mode ∷ [])) _ k
 
   least : held_in numbers ≤ j.ruling.count
-  least = leb-true (held_in numbers) j.ruling.count (and_left _ (leb j.ruling.count 1024) b)
+  least = leb-true (held_in numbers) j.ruling.count (true_and_left _ (leb j.ruling.count 1024) b)
 
   most : j.ruling.count ≤ 1024
-  most = leb-true j.ruling.count 1024 (and_right (leb (held_in numbers) j.ruling.count) _ b)
+  most = leb-true j.ruling.count 1024 (true_and_right (leb (held_in numbers) j.ruling.count) _ b)
 
   count_is : length (joined_in j) ≡ j.ruling.count
   count_is = length-take-le j.ruling.count j.joined (omega (arith, most, m.size))
@@ -245,10 +246,10 @@ module _ (j : JudgementRecord) (m : Made j) (z : j.ruling.codes ≡ 0) (v : j.ru
   drawn_read : eqb j.ruling.accepts reads ≡ true → asks_only c j ≡ true → Drawn j
   unfolding judge_data judge_read wrong_command wrong_order
   drawn_read r a =
-      let first = and_left (not (is_open (open_kept j)) && readable c) _ a in
-      let closed : is_open_in numbers ≡ false = sym open_kept_lem ∙ not-true (is_open (open_kept j)) (and_left _ (readable c) first) in
-      let empty : length (joined_in j) ≡ 0 = count_is ∙ eqb-true j.ruling.count 0 (and_right (not (is_open (open_kept j)) && readable c) _ a) in
-      drawn_by host_read whole (rw (and_right (not (is_open (open_kept j))) (readable c) first)) (rw closed) (Read c) (rw empty) r refl (omega arith) (omega arith)
+      let first = true_and_left (not (is_open (open_kept j)) && readable c) _ a in
+      let closed : is_open_in numbers ≡ false = sym open_kept_lem ∙ not-true (is_open (open_kept j)) (true_and_left _ (readable c) first) in
+      let empty : length (joined_in j) ≡ 0 = count_is ∙ eqb-true j.ruling.count 0 (true_and_right (not (is_open (open_kept j)) && readable c) _ a) in
+      drawn_by host_read whole (rw (true_and_right (not (is_open (open_kept j))) (readable c) first)) (rw closed) (Read c) (rw empty) r refl (omega arith) (omega arith)
 
   drawn_accepted : acceptable (Some c) j ≡ true → Drawn j
   unfolding judge_write
@@ -256,16 +257,16 @@ module _ (j : JudgementRecord) (m : Made j) (z : j.ruling.codes ≡ 0) (v : j.ru
       let sized = eqb (length (joined_in j)) (size_of c) in
       let fine = allowed c (split_all (layout c) (joined_in j)) in
       let stopped = blocked c (split_all (layout c) (joined_in j)) j.ruling.kept.mode in
-      cond_cases Gives (eqb j.ruling.accepts holds)
+      cond_both (eqb j.ruling.accepts holds) _ _ Gives
       (λ h o. drawn_write false o (Hold c) refl h refl)
       (λ _.
-      cond_cases Gives (eqb j.ruling.accepts writes)
+      cond_both (eqb j.ruling.accepts writes) _ _ Gives
       (λ h a.
-      let w : (sized && fine && not stopped) ≡ true = and_right (in_order c j) _ a in
-      let g = and_left (sized && fine) _ w in
-      drawn_write true (and_left _ _ a) (Write (value_from c (split_all (layout c) (joined_in j))))
-      (rw (and_left sized fine g, and_right sized fine g, not-true stopped (and_right (sized && fine) _ w))) h refl)
-      (λ _. cond_cases Gives (eqb j.ruling.accepts reads) drawn_read (λ _ a. never a)))
+      let w : (sized && fine && not stopped) ≡ true = true_and_right (in_order c j) _ a in
+      let g = true_and_left (sized && fine) _ w in
+      drawn_write true (true_and_left _ _ a) (Write (value_from c (split_all (layout c) (joined_in j))))
+      (rw (true_and_left sized fine g, true_and_right sized fine g, not-true stopped (true_and_right (sized && fine) _ w))) h refl)
+      (λ _. cond_both (eqb j.ruling.accepts reads) _ _ Gives drawn_read (λ _ a. never a)))
     where
       Gives : Bool → Type 0
       Gives b = b ≡ true → Drawn j
@@ -273,7 +274,7 @@ module _ (j : JudgementRecord) (m : Made j) (z : j.ruling.codes ≡ 0) (v : j.ru
 -- a judgement that is found is drawn
 pub found_drawn : (j : JudgementRecord) → Made j → drawable j ≡ true → Drawn j
 unfolding drawable
-found_drawn j m h = go (command_for j) refl (and_right first _ h)
+found_drawn j m h = go (command_for j) refl (true_and_right first _ h)
   where
     first : Bool
     first = eqb j.ruling.codes 0 && eqb j.ruling.wrong no_wrong && kept_in_rule j && joined_in_rule j
@@ -281,5 +282,5 @@ found_drawn j m h = go (command_for j) refl (and_right first _ h)
     go : (f : Option Command) → command_for j ≡ f → acceptable f j ≡ true → Drawn j
     go None e a = never a
     go (Some c) e a =
-        let r = all_of_four (eqb j.ruling.codes 0) (eqb j.ruling.wrong no_wrong) (kept_in_rule j) (joined_in_rule j) (and_left first _ h) in
+        let r = all_of_four (eqb j.ruling.codes 0) (eqb j.ruling.wrong no_wrong) (kept_in_rule j) (joined_in_rule j) (true_and_left first _ h) in
         drawn_accepted j m (eqb-true j.ruling.codes 0 r.0) (eqb-true j.ruling.wrong no_wrong r.1) r.2 r.3 c e a

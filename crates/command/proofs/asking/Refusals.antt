@@ -6,11 +6,12 @@ use mathlib.Core.Bool.{Bool, true, false, not, ◌&&◌}
 use mathlib.Core.List.Memᴰ
 use mathlib.Core.List.{List, [], ◌∷◌, Memᴰ}
 use Rattle.std.specs.Prelude.{Option, None, Some}
+use Rattle.std.proofs.lemmas.Bool.{cond_both, and_from}
 use native.Mathlib.Omega.{arith}
 use lib.Dec.{eqb}
 use lib.ListN.{length}
 use borrow.Author.Tests.{lt-ltb, le-ltb, eq-eqb, eqb-true, not-false}
-use Rattle.packet.proofs.Cases.{bool_cases, cond_cases, and_left, and_right, and_both, and_cases, lt_cases, never}
+use Rattle.packet.proofs.Cases.{bool_cases, true_and_left, true_and_right, false_and_cases, lt_cases, never}
 use Rattle.packet.specs.Stream.{size, has_packet}
 use Rattle.packet.proofs.StreamLaws.{seven}
 use Rattle.command.specs.Faults.{codes_of, list_if}
@@ -44,7 +45,7 @@ one_exactly b = (forth, λ o. one_packet_lem b (is_packet b o))
   where
     forth : (has_packet b && eqb (size b) (length b)) ≡ true → OnePacket b
     forth h =
-        let e : size b ≡ length b = eqb-true (size b) (length b) (and_right (has_packet b) _ h) in
+        let e : size b ≡ length b = eqb-true (size b) (length b) (true_and_right (has_packet b) _ h) in
         (alone b (record { least = omega (arith, seven b); exact = e })).0
 
 -- one number is not another
@@ -63,9 +64,9 @@ module _ (c : Controller) (b : List ℕ) (lent : JudgementRecord) where
       → P (judge_call c b lent)
   unfolding judge_call
   asked_ways P out parts good =
-      cond_cases P (in_rule c)
+      cond_both (in_rule c) _ _ P
       (λ r.
-      cond_cases P (one_packet b)
+      cond_both (one_packet b) _ _ P
       (λ o. good (let_pass c r) ((one_exactly b).0 o))
       (λ o. parts (let_pass c r) (λ k. never (sym o ∙ (one_exactly b).1 k))))
       (λ r. out ((controller_out c).0 r))
@@ -147,7 +148,7 @@ drawn_genuine j g =
 -- one that is forged has no code
 forged_uncoded : (j : JudgementRecord) → forged j ≡ true → Uncoded j
 unfolding forged
-forged_uncoded j h = (nil_test (codes_in (meant j))).0 (and_left _ (not (drawable j)) h)
+forged_uncoded j h = (nil_test (codes_in (meant j))).0 (true_and_left _ (not (drawable j)) h)
 
 -- and no packet draws it
 module _ (j : JudgementRecord) (m : Made j) where
@@ -155,14 +156,14 @@ module _ (j : JudgementRecord) (m : Made j) where
   forged_exactly = (
     λ h. (forged_uncoded j h, λ g. never (sym (drawn_genuine j g) ∙ h)),
     λ h. unfold forged in
-        and_both _ _ ((nil_test (codes_in (meant j))).1 h.0)
+        and_from _ _ ((nil_test (codes_in (meant j))).1 h.0)
         (ap not (bool_cases (drawable j) (λ e. absurd (h.1 (found_drawn j m e))) (λ e. e))),
   )
 
   pub not_forged : (forged j ≡ false) ↔ ((Uncoded j → ⊥) ⊎ Drawn j)
   not_forged = (
     λ h. unfold forged in
-        and_cases (is_nil (codes_in (meant j))) (not (drawable j))
+        false_and_cases (is_nil (codes_in (meant j))) (not (drawable j))
         (λ e. inl (λ u. never (sym e ∙ (nil_test (codes_in (meant j))).1 u))) (λ e. inr (found_drawn j m (not-false _ e))) h,
     ⊎_elim (λ n. bool_cases (forged j) (λ f. absurd (n (forged_uncoded j f))) (λ f. f)) (drawn_genuine j),
   )

@@ -1,6 +1,7 @@
 -- The call that carries out a judgement, whatever judgement is handed in: the half-received packet stays, a head in rule stays in rule, and the bytes that
 -- come afterwards are judged as document 01 judges them.
 use Rattle.std.specs.Prelude.{Option, None, Some}
+use Rattle.std.proofs.lemmas.Bool.{cond_both}
 use Prim.Native.Nat.{ℕ, ◌+◌, ◌≤◌}
 use mathlib.Core.Path.{◌≡◌, refl, ap, sym, subst, ◌∙◌}
 use mathlib.Core.Bool.{true, false, not, ◌&&◌}
@@ -14,7 +15,7 @@ use Rattle.packet.specs.Calls.{served_one, joined}
 use Rattle.packet.specs.Packet.{payload_length}
 use Rattle.packet.specs.Receiver.{Receiver, with, waiting as receiver_waiting, packet_in_rule}
 use Rattle.packet.specs.Stream.{has_packet, packets, rest}
-use Rattle.packet.proofs.Cases.{cond_cases, and_left, and_right}
+use Rattle.packet.proofs.Cases.{true_and_left, true_and_right}
 use Rattle.packet.proofs.Calls.{goes_on}
 use Rattle.packet.proofs.StreamLaws.{no_header, rest_short}
 use Rattle.packet.proofs.ReceiverLaws.{with_nil, hold_length}
@@ -75,14 +76,14 @@ module _ (j : JudgementRecord) where
   drawable_parts h =
       let k = eqb j.ruling.codes 0 && eqb j.ruling.wrong no_wrong && kept_in_rule j in
       let d = acceptable (command_for j) j in
-      record { joined = and_right k (joined_in_rule j) (and_left (k && joined_in_rule j) d h); accepted = and_right (k && joined_in_rule j) d h }
+      record { joined = true_and_right k (joined_in_rule j) (true_and_left (k && joined_in_rule j) d h); accepted = true_and_right (k && joined_in_rule j) d h }
 
   -- there is room for its data
   room : drawable j ≡ true → held_in (transfer_kept j) + length (brought_in j) ≤ 1024
   room h =
       let d = (drawable_parts h).joined in
-      let n = leb-true (held_in (transfer_kept j)) j.ruling.count (and_left _ _ d) in
-      let m = leb-true j.ruling.count 1024 (and_right (leb (held_in (transfer_kept j)) j.ruling.count) _ d) in
+      let n = leb-true (held_in (transfer_kept j)) j.ruling.count (true_and_left _ _ d) in
+      let m = leb-true j.ruling.count 1024 (true_and_right (leb (held_in (transfer_kept j)) j.ruling.count) _ d) in
       omega (arith, n, m, length-drop (held_in (transfer_kept j)) (joined_in j), length-take j.ruling.count j.joined)
 
   -- its write may be carried out
@@ -96,26 +97,26 @@ module _ (j : JudgementRecord) where
       rw (command_from c (split_all (layout c) (joined_in j)), values_from c (split_all (layout c) (joined_in j)) (split_length (layout c) (joined_in j)))
       (record {
         full = split_length (layout c) (joined_in j);
-        values = and_right n a (and_left (n && a) b w);
-        free = not-true (blocked c v j.ruling.kept.mode) (and_right (n && a) b w);
+        values = true_and_right n a (true_and_left (n && a) b w);
+        free = not-true (blocked c v j.ruling.kept.mode) (true_and_right (n && a) b w);
       })
 
   accepted_may : (f : Option Command) → command_for j ≡ f → Claim (accepted_as f j)
   accepted_may None e = λ _. (tt, tt)
   accepted_may (Some c) e =
-      cond_cases Claim (eqb j.ruling.accepts holds)
+      cond_both (eqb j.ruling.accepts holds) _ _ Claim
       (λ _ d. (tt, room (d refl)))
-      (λ a. cond_cases Claim (eqb j.ruling.accepts writes)
+      (λ a. cond_both (eqb j.ruling.accepts writes) _ _ Claim
       (λ b d.
       let y = (drawable_parts (d refl)).accepted in
       let x : (in_order c j && writable c j.ruling.kept.mode (joined_in j)) ≡ true = rw (e, a, b) at y in
-      (may_write c (and_right (in_order c j) _ x), tt))
-      (λ _. cond_cases Claim (eqb j.ruling.accepts reads) (λ _ _. (tt, tt)) (λ _ _. (tt, tt))))
+      (may_write c (true_and_right (in_order c j) _ x), tt))
+      (λ _. cond_both (eqb j.ruling.accepts reads) _ _ Claim (λ _ _. (tt, tt)) (λ _ _. (tt, tt))))
 
   meant_may : forged j ≡ false → May (meant j)
   unfolding forged meant
   meant_may h =
-      cond_cases Claim (eqb j.ruling.codes 0) (λ _. accepted_may (command_for j) refl) (λ _ _. (tt, tt))
+      cond_both (eqb j.ruling.codes 0) _ _ Claim (λ _. accepted_may (command_for j) refl) (λ _ _. (tt, tt))
       (λ u. not-false (drawable j) (sym (ap (λ b. b && not (drawable j)) u) ∙ h))
 
 -- A controller in rule stays so.

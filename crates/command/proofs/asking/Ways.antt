@@ -5,10 +5,11 @@ use mathlib.Core.Logic.{◌↔◌}
 use mathlib.Core.Bool.{Bool, true, false, ◌&&◌}
 use mathlib.Core.List.{List}
 use Rattle.std.specs.Prelude.{Option, None, Some}
+use Rattle.std.proofs.lemmas.Bool.{cond_both, and_from}
 use lib.Dec.{eqb, ltb}
 use lib.ListN.{length}
 use borrow.Author.Tests.{ltb-true, ltb-false, eq-eqb, eqb-true}
-use Rattle.packet.proofs.Cases.{cond_cases, and_left, and_right, and_both, never}
+use Rattle.packet.proofs.Cases.{true_and_left, true_and_right, never}
 use Rattle.command.specs.Controller.{in_rule}
 use Rattle.command.specs.Ruling.{forged, Items, items_of, items_kept, same_command, same_items}
 use Rattle.command.specs.Data.{same_list}
@@ -22,15 +23,15 @@ use Rattle.command.proofs.Refusals.{controller_out}
 -- a test of four parts
 pub all_of_four : (a b c d : Bool) → (a && b && c && d) ≡ true → (a ≡ true) × (b ≡ true) × (c ≡ true) × (d ≡ true)
 all_of_four a b c d h =
-    let abc = and_left (a && b && c) d h in
-    let ab = and_left (a && b) c abc in
-    (and_left a b ab, and_right a b ab, and_right (a && b) c abc, and_right (a && b && c) d h)
+    let abc = true_and_left (a && b && c) d h in
+    let ab = true_and_left (a && b) c abc in
+    (true_and_left a b ab, true_and_right a b ab, true_and_right (a && b) c abc, true_and_right (a && b && c) d h)
 
 -- The same kept items.
 
 command_self : (c : Option (ℕ × ℕ)) → same_command c c ≡ true
 command_self None = refl
-command_self (Some c) = and_both _ _ (eq-eqb c.0 c.0 refl) (eq-eqb c.1 c.1 refl)
+command_self (Some c) = and_from _ _ (eq-eqb c.0 c.0 refl) (eq-eqb c.1 c.1 refl)
 
 pub same_self : (i : Items) → same_items i i ≡ true
 unfolding same_items
@@ -41,8 +42,8 @@ same_command_lem None None h = refl
 same_command_lem None (Some d) h = never h
 same_command_lem (Some c) None h = never h
 same_command_lem (Some c) (Some d) h =
-    let a : c.0 ≡ d.0 = eqb-true c.0 d.0 (and_left _ (eqb c.1 d.1) h) in
-    let b : c.1 ≡ d.1 = eqb-true c.1 d.1 (and_right (eqb c.0 d.0) _ h) in
+    let a : c.0 ≡ d.0 = eqb-true c.0 d.0 (true_and_left _ (eqb c.1 d.1) h) in
+    let b : c.1 ≡ d.1 = eqb-true c.1 d.1 (true_and_right (eqb c.0 d.0) _ h) in
     ap Some (pair_eq a b)
   where
     pair_eq : c.0 ≡ d.0 → c.1 ≡ d.1 → c ≡ d
@@ -80,16 +81,16 @@ module _ (c : Controller) (j : JudgementRecord) (out : List ℕ) where
       → P (carry_call c j out)
   unfolding carry_call
   carry_ways P short outside bad stale good =
-      cond_cases P (ltb (length out) 64)
+      cond_both (ltb (length out) 64) _ _ P
       (λ l. short (ltb-true (length out) 64 l))
       (λ l.
       let n = ltb-false (length out) 64 l in
-      cond_cases P (in_rule c)
+      cond_both (in_rule c) _ _ P
       (λ r.
-      cond_cases P (forged j)
+      cond_both (forged j) _ _ P
       (λ f. bad n (let_pass c r) f)
       (λ f.
-      cond_cases P (same_items (items_of c) (items_kept j))
+      cond_both (same_items (items_of c) (items_kept j)) _ _ P
       (λ s. good n (let_pass c r) f ((same_exactly (items_of c) (items_kept j)).0 s))
       (λ s. stale n (let_pass c r) f (other_items (items_of c) (items_kept j) s))))
       (λ r. outside n ((controller_out c).0 r)))

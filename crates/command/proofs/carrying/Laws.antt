@@ -10,7 +10,7 @@ use lib.Dec.{eqb, leb, ltb}
 use lib.ListN.{length, take, drop}
 use lib.Seq.{length-take-le, take-add, drop_at}
 use borrow.Author.Tests.{eqb-true, leb-true, le-ltb, not-false}
-use Rattle.packet.proofs.Cases.{bool_cases, and_left, and_right}
+use Rattle.packet.proofs.Cases.{bool_cases, true_and_left, true_and_right}
 use Rattle.command.specs.Table.{command_of, layout, size_of}
 use Rattle.command.specs.Rules.{allowed, blocked}
 use Rattle.command.specs.Data.{split_all, same_list}
@@ -58,7 +58,7 @@ same_numbers_lem t k =
 same_held : (t k : TransferState) → same_numbers t k ≡ true → held_in t ≡ held_in k
 same_held t k h =
     eqb-true (held_in t) (held_in k)
-    (and_right (same_command (items_in 0 t []).command (items_in 0 k []).command) (eqb (held_in t) (held_in k)) (same_numbers_lem t k ∙ h))
+    (true_and_right (same_command (items_in 0 t []).command (items_in 0 k []).command) (eqb (held_in t) (held_in k)) (same_numbers_lem t k ∙ h))
 
 -- of transfers with the same numbers as many bytes are looked at
 pub same_items_lem : (m n : ℕ) (t k : TransferState) (a b : List ℕ)
@@ -119,11 +119,11 @@ in_rule_lem n r =
     let t = transfer_of_kept n.kept in
     let m = eqb n.wrong no_wrong && allowed DisplayMode (n.kept.mode ∷ []) in
     let l = leb (held_in t) n.count in
-    let h = and_left (m && transfer_in_rule t && l) (leb n.count 1024) r in
+    let h = true_and_left (m && transfer_in_rule t && l) (leb n.count 1024) r in
     record {
-      transfer = and_right m (transfer_in_rule t) (and_left (m && transfer_in_rule t) l h);
-      least = leb-true (held_in t) n.count (and_right (m && transfer_in_rule t) l h);
-      most = leb-true n.count 1024 (and_right (m && transfer_in_rule t && l) (leb n.count 1024) r);
+      transfer = true_and_right m (transfer_in_rule t) (true_and_left (m && transfer_in_rule t) l h);
+      least = leb-true (held_in t) n.count (true_and_right (m && transfer_in_rule t) l h);
+      most = leb-true n.count 1024 (true_and_right (m && transfer_in_rule t && l) (leb n.count 1024) r);
     }
 
 module _ (n : Ruling) (d : List ℕ) where
@@ -197,8 +197,8 @@ module _
       let t = transfer_of c.registers in
       let k = transfer_of_kept j.ruling.kept in
       same_held t k
-      (and_right (eqb m j.ruling.kept.mode) (same_numbers t k)
-      (and_left (eqb m j.ruling.kept.mode && same_numbers t k) (same_list (take (held_in t) c.buffer) (take (held_in t) j.joined))
+      (true_and_right (eqb m j.ruling.kept.mode) (same_numbers t k)
+      (true_and_left (eqb m j.ruling.kept.mode && same_numbers t k) (same_list (take (held_in t) c.buffer) (take (held_in t) j.joined))
       (sym (same_items_lem m j.ruling.kept.mode t k c.buffer j.joined) ∙ i)))
 
   -- data that are held are drawn by a packet, and are in rule
@@ -207,8 +207,8 @@ module _
   held_in_rule d e =
       let a = acceptable (command_for j) j in
       in_rule_lem j.ruling
-      (and_left (ruling_in_rule j.ruling) a
-      (and_right (eqb j.ruling.codes 0) (ruling_in_rule j.ruling && a) (sym (drawable_is j.ruling j.joined) ∙ not-false (drawable j) (rw e at f))))
+      (true_and_left (ruling_in_rule j.ruling) a
+      (true_and_right (eqb j.ruling.codes 0) (ruling_in_rule j.ruling && a) (sym (drawable_is j.ruling j.joined) ∙ not-false (drawable j) (rw e at f))))
 
   -- the bytes that the packet brought stand from the held ones up to here, where the judgement holds them
   pub brought : (end : ℕ) → (held_in (transfer_of c.registers) ≤ j.ruling.count → j.ruling.count ≤ 1024 → end ≡ j.ruling.count)

@@ -11,7 +11,8 @@ use lib.ListN.{length, take, drop, length-append, take-append-drop, length-drop,
 use lib.Seq.{take_at, drop_at, length-take-le, drop-drop, get_or-drop}
 use Rattle.packet.specs.Number.{value_of, bytes_of, Bytes}
 use Rattle.packet.specs.Packet.{sum}
-use Rattle.packet.proofs.Cases.{and_left, and_right, and_both}
+use Rattle.std.proofs.lemmas.Bool.{and_from}
+use Rattle.packet.proofs.Cases.{true_and_left, true_and_right}
 use Rattle.packet.proofs.NumberLaws.{bytes_take, bytes_drop, value_bytes, length_bytes, bytes_value, value_bound}
 use Rattle.command.specs.Data.{split_all, join_all, Fit, same_list}
 use Rattle.command.specs.Inner.{total, number_at, split_from}
@@ -103,9 +104,9 @@ list_true [] [] h = refl
 list_true [] (y ∷ b) h = cc
 list_true (x ∷ a) [] h = cc
 list_true (x ∷ a) (y ∷ b) h =
-    ap₂ {C = List ℕ} (λ u t. u ∷ t) (eqb-true x y (and_left (eqb x y) (same_list a b) h)) (list_true a b (and_right (eqb x y) (same_list a b) h))
+    ap₂ {C = List ℕ} (λ u t. u ∷ t) (eqb-true x y (true_and_left (eqb x y) (same_list a b) h)) (list_true a b (true_and_right (eqb x y) (same_list a b) h))
 
 pub list_refl : (a : List ℕ) → same_list a a ≡ true
 unfolding same_list
 list_refl [] = refl
-list_refl (x ∷ a) = and_both (eqb x x) (same_list a a) (eq-eqb x x refl) (list_refl a)
+list_refl (x ∷ a) = and_from (eqb x x) (same_list a a) (eq-eqb x x refl) (list_refl a)

@@ -1,5 +1,6 @@
 -- The codes that are listed, and the tests of the first group as document 01's lines.
 use Rattle.std.specs.Prelude.{Option, None, Some}
+use Rattle.std.proofs.lemmas.Bool.{and_from, or_right}
 use Prim.Native.Nat.{ℕ, ◌+◌, ◌<◌, ◌≤◌}
 use mathlib.Core.Path.{◌≡◌, refl, ap, sym, subst, ◌∙◌}
 use mathlib.Core.Logic.{◌↔◌, ◌⊎◌, inl, inr, ⊎_elim}
@@ -11,7 +12,7 @@ use lib.Dec.{eqb, ltb}
 use lib.ListN.{length}
 use borrow.Author.Tests.{lt-ltb, ltb-true, eq-eqb, ne_eqb, eqb-true, eqb-false, not-true, not-false}
 use Rattle.packet.specs.Packet.{host_write, host_read, whole, beginning, intermediate, last}
-use Rattle.packet.proofs.Cases.{bool_cases, and_left, and_right, and_both, or_left, or_right, or_cases, or_that, never}
+use Rattle.packet.proofs.Cases.{bool_cases, true_and_left, true_and_right, false_or_left, false_or_right, true_or_cases, never}
 use Rattle.command.specs.Table.{cmd1_for, cmd2_for, command_of, same, readable}
 use Rattle.command.specs.Transfer.{Transfer, Closed, Opened, is_open, held, open_for}
 use Rattle.command.specs.Inner.{faults_of, any_code}
@@ -154,11 +155,11 @@ any_code_lem k = simp (nil_if, not_or, and_assoc, and-true)
 
 -- one of two flags
 pub two_true : (f m n : ℕ) → (eqb f m || eqb f n) ≡ true → (f ≡ m) ⊎ (f ≡ n)
-two_true f m n = or_cases (eqb f m) (eqb f n) (λ h. inl (eqb-true f m h)) (λ h. inr (eqb-true f n h))
+two_true f m n = true_or_cases (eqb f m) (eqb f n) (λ h. inl (eqb-true f m h)) (λ h. inr (eqb-true f n h))
 
 pub true_two : (f m n : ℕ) → (f ≡ m) ⊎ (f ≡ n) → (eqb f m || eqb f n) ≡ true
 true_two f m n (inl e) = rw (eq-eqb f m e)
-true_two f m n (inr e) = or_that (eqb f m) (eqb f n) (eq-eqb f n e)
+true_two f m n (inr e) = or_right (eqb f m) (eqb f n) (eq-eqb f n e)
 
 -- a command is found by its bytes, and by no others
 pub named : (cmd1 cmd2 : ℕ) (c : Command) → Names cmd1 cmd2 c → command_of cmd1 cmd2 ≡ Some c
@@ -189,30 +190,30 @@ module _ (t : Transfer) (p : Arrived) where
   unfolding wrong_command
   command_fault None e h = UnknownCommand (λ c n. let z : ◌≡◌ {A = ℕ} 0 1 = cc (named p.cmd1 p.cmd2 c n) in omega arith)
   command_fault (Some c) e h =
-      or_cases (not (eqb p.type host_write || eqb p.type host_read) || false) (eqb p.type host_read && not (readable c))
-      (or_cases (not (eqb p.type host_write || eqb p.type host_read)) false
+      true_or_cases (not (eqb p.type host_write || eqb p.type host_read) || false) (eqb p.type host_read && not (readable c))
+      (true_or_cases (not (eqb p.type host_write || eqb p.type host_read)) false
       (λ h.
       let n = not-true _ h in
-      UnknownType (eqb-false p.type host_write (or_left _ _ n)) (eqb-false p.type host_read (or_right (eqb p.type host_write) _ n)))
+      UnknownType (eqb-false p.type host_write (false_or_left _ _ n)) (eqb-false p.type host_read (false_or_right (eqb p.type host_write) _ n)))
       never)
       (λ h.
-      let colour : c ≡ StaticColour = same_eq c StaticColour (not-false _ (not-true _ (and_right (eqb p.type host_read) _ h))) in
+      let colour : c ≡ StaticColour = same_eq c StaticColour (not-false _ (not-true _ (true_and_right (eqb p.type host_read) _ h))) in
       let code : Names p.cmd1 p.cmd2 StaticColour = rw colour at (known_code p.cmd1 p.cmd2 c e) in
-      ColourRead (eqb-true p.type host_read (and_left _ (not (readable c)) h)) code.0 code.1)
+      ColourRead (eqb-true p.type host_read (true_and_left _ (not (readable c)) h)) code.0 code.1)
       h
 
   -- 04
   memory_fault : too_long (is_open t) (length (held t)) p.flags p.size ≡ true → FirstFault t p 0x04
   unfolding too_long
   memory_fault =
-      or_cases (ltb 1024 p.size) (continues p.flags && is_open t && ltb 1024 (length (held t) + p.size))
+      true_or_cases (ltb 1024 p.size) (continues p.flags && is_open t && ltb 1024 (length (held t) + p.size))
       (λ h. LongPayload (ltb-true 1024 p.size h)) (longer t refl)
     where
       longer : (u : Transfer) → t ≡ u → (continues p.flags && is_open u && ltb 1024 (length (held u) + p.size)) ≡ true → FirstFault t p 0x04
-      longer Closed e h = never (and_right (continues p.flags) false (and_left (continues p.flags && false) (ltb 1024 (0 + p.size)) h))
+      longer Closed e h = never (true_and_right (continues p.flags) false (true_and_left (continues p.flags && false) (ltb 1024 (0 + p.size)) h))
       longer (Opened c d) e h =
-          LongTransfer c d (two_true p.flags intermediate last (and_left _ true (and_left _ (ltb 1024 (length d + p.size)) h))) e
-          (ltb-true 1024 (length d + p.size) (and_right (continues p.flags && true) _ h))
+          LongTransfer c d (two_true p.flags intermediate last (true_and_left _ true (true_and_left _ (ltb 1024 (length d + p.size)) h))) e
+          (ltb-true 1024 (length d + p.size) (true_and_right (continues p.flags && true) _ h))
 
   -- 0B
   order_fault : wrong_order (is_open t) (open_for (command_of p.cmd1 p.cmd2) t) p.type p.flags ≡ true → FirstFault t p 0x0B
@@ -221,20 +222,20 @@ module _ (t : Transfer) (p : Arrived) where
       let parts = not (eqb p.type host_write) && not (eqb p.flags whole) in
       let stray = continues p.flags && not (open_for (command_of p.cmd1 p.cmd2) t) in
       let still = (eqb p.flags whole || eqb p.flags beginning) && is_open t in
-      or_cases (ltb last p.flags || parts || stray) still
-      (or_cases (ltb last p.flags || parts) stray
-      (or_cases (ltb last p.flags) parts
+      true_or_cases (ltb last p.flags || parts || stray) still
+      (true_or_cases (ltb last p.flags || parts) stray
+      (true_or_cases (ltb last p.flags) parts
       (λ h. UnknownFlags (ltb-true last p.flags h))
-      (λ h. NoWriteInParts (eqb-false p.type host_write (not-true _ (and_left _ _ h))) (eqb-false p.flags whole (not-true _ (and_right (not (eqb p.type host_write)) _ h)))))
-      (λ h. no_transfer_lem t refl (two_true p.flags intermediate last (and_left _ _ h)) (not-true _ (and_right (continues p.flags) _ h))))
-      (λ h. open_still t refl (two_true p.flags whole beginning (and_left _ _ h)) (and_right (eqb p.flags whole || eqb p.flags beginning) (is_open t) h))
+      (λ h. NoWriteInParts (eqb-false p.type host_write (not-true _ (true_and_left _ _ h))) (eqb-false p.flags whole (not-true _ (true_and_right (not (eqb p.type host_write)) _ h)))))
+      (λ h. no_transfer_lem t refl (two_true p.flags intermediate last (true_and_left _ _ h)) (not-true _ (true_and_right (continues p.flags) _ h))))
+      (λ h. open_still t refl (two_true p.flags whole beginning (true_and_left _ _ h)) (true_and_right (eqb p.flags whole || eqb p.flags beginning) (is_open t) h))
     where
       no_transfer_lem : (u : Transfer) → t ≡ u → Continues p.flags → open_for (command_of p.cmd1 p.cmd2) u ≡ false → FirstFault t p 0x0B
       no_transfer_lem Closed e f h = NoneOpen f e
       no_transfer_lem (Opened c d) e f h =
           OpenForAnother c d f e
           (λ n. never (sym h ∙ ap (λ (g : Option Command). open_for g (Opened c d)) (named p.cmd1 p.cmd2 c n)
-          ∙ and_both _ _ (eq-eqb (cmd1_for c) (cmd1_for c) refl) (eq-eqb (cmd2_for c) (cmd2_for c) refl)))
+          ∙ and_from _ _ (eq-eqb (cmd1_for c) (cmd1_for c) refl) (eq-eqb (cmd2_for c) (cmd2_for c) refl)))
 
       open_still : (u : Transfer) → t ≡ u → Starts p.flags → is_open u ≡ true → FirstFault t p 0x0B
       open_still Closed e f h = never h
@@ -295,9 +296,9 @@ module _ (t : Transfer) (p : Arrived) where
   any_held : {P : Type 0} → ((n : ℕ) → Held first_group n → P) → any_fault first_group ≡ true → P
   unfolding any_fault
   any_held f =
-      or_cases (first_group.command || first_group.memory || first_group.checksum) first_group.continuation
-      (or_cases (first_group.command || first_group.memory) first_group.checksum
-      (or_cases first_group.command first_group.memory (λ h. f 0x02 (Code02 h)) (λ h. f 0x04 (Code04 h)))
+      true_or_cases (first_group.command || first_group.memory || first_group.checksum) first_group.continuation
+      (true_or_cases (first_group.command || first_group.memory) first_group.checksum
+      (true_or_cases first_group.command first_group.memory (λ h. f 0x02 (Code02 h)) (λ h. f 0x04 (Code04 h)))
       (λ h. f 0x09 (Code09 h)))
       (λ h. f 0x0B (Code0B h))
 

@@ -11,7 +11,7 @@ use lib.ListN.{length, get_or}
 use borrow.Author.Tests.{eq-eqb, ne_eqb, eqb-true, eqb-false, not-true}
 use Rattle.packet.specs.Packet.{error, host_write, host_read, whole, last, sum}
 use Rattle.packet.specs.Number.{value_of}
-use Rattle.packet.proofs.Cases.{bool_cases, and_left, and_right, never}
+use Rattle.packet.proofs.Cases.{bool_cases, true_and_left, true_and_right, never}
 use Rattle.command.specs.Table.{command_of, same, layout, size_of}
 use Rattle.command.specs.Rules.{wrong_byte, blocked}
 use Rattle.command.specs.Data.{split_all}
@@ -80,12 +80,12 @@ module _ (mode : ℕ) (t : Transfer) (p : Arrived) where
         size = λ f r n. alone 0x0A f (WrongSize c (write r) names (eqb-false (length d) (size_of c) n));
         value = λ f r n a. alone 0x03 f (ValueNotAllowed c (write r) names (eqb-true (length d) (size_of c) n) a);
         blocks = λ f r n a b.
-            let one = and_left (same c SequenceRun && eqb (get_or (split_all (layout c) d) 0 0) 1) (not (eqb mode 4)) b in
-            let run : c ≡ SequenceRun = same_eq c SequenceRun (and_left (same c SequenceRun) _ one) in
+            let one = true_and_left (same c SequenceRun && eqb (get_or (split_all (layout c) d) 0 0) 1) (not (eqb mode 4)) b in
+            let run : c ≡ SequenceRun = same_eq c SequenceRun (true_and_left (same c SequenceRun) _ one) in
             alone 0x07 f
             (RunOutsideMode (write r) (rw run at names)
-            (run_one d (rw run at (eqb-true (length d) (size_of c) n)) (rw run at (eqb-true (get_or (split_all (layout c) d) 0 0) 1 (and_right (same c SequenceRun) _ one))))
-            (eqb-false mode 4 (not-true _ (and_right (same c SequenceRun && eqb (get_or (split_all (layout c) d) 0 0) 1) _ b))));
+            (run_one d (rw run at (eqb-true (length d) (size_of c) n)) (rw run at (eqb-true (get_or (split_all (layout c) d) 0 0) 1 (true_and_right (same c SequenceRun) _ one))))
+            (eqb-false mode 4 (not-true _ (true_and_right (same c SequenceRun && eqb (get_or (split_all (layout c) d) 0 0) 1) _ b))));
         write = λ _ _ _ _. tt;
       })
 

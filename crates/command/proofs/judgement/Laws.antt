@@ -1,5 +1,6 @@
 -- The ways a packet can be judged, what is known of a write that is carried out, and how the steps of the code make up the judgement.
 use Rattle.std.specs.Prelude.{Option, None, Some}
+use Rattle.std.proofs.lemmas.Bool.{cond_both}
 use Prim.Native.Nat.{ℕ, ◌-◌, ◌<◌}
 use mathlib.Core.Path.{◌≡◌, refl, ap, sym}
 use mathlib.Core.Bool.{Bool, true, false, cond, not, ◌||◌, or-true}
@@ -12,7 +13,7 @@ use borrow.Author.Tests.{eqb-true}
 use Rattle.packet.specs.Number.{Bytes}
 use Rattle.packet.specs.Packet.{type_of, cmd1_of, cmd2_of, flags_of, payload_length, payload, right_sum, host_write, host_read}
 use Rattle.packet.specs.Stream.{size}
-use Rattle.packet.proofs.Cases.{bool_cases, cond_cases}
+use Rattle.packet.proofs.Cases.{bool_cases}
 use Rattle.command.specs.Table.{command_of, layout, size_of}
 use Rattle.command.specs.Rules.{allowed, wrong_byte, blocked}
 use Rattle.command.specs.Data.{split_all, Fit}
@@ -49,16 +50,16 @@ pub record Later (P : Judgement → Type 0) (mode type flags : ℕ) (c : Command
 later : (P : Judgement → Type 0) (mode type flags : ℕ) (c : Command) (d : List ℕ) → Later P mode type flags c d → P (judge_data c mode type flags d)
 unfolding judge_data judge_read judge_write
 later P mode type flags c d l =
-    cond_cases P (completes flags)
+    cond_both (completes flags) _ _ P
     (λ f.
-    cond_cases P (eqb type host_read)
-    (λ r. cond_cases P (eqb (length d) 0) (λ n. l.read f r n) (λ n. l.asked f r n))
+    cond_both (eqb type host_read) _ _ P
+    (λ r. cond_both (eqb (length d) 0) _ _ P (λ n. l.read f r n) (λ n. l.asked f r n))
     (λ r.
-    cond_cases P (eqb (length d) (size_of c))
+    cond_both (eqb (length d) (size_of c)) _ _ P
     (λ n.
-    cond_cases P (allowed c (split_all (layout c) d))
+    cond_both (allowed c (split_all (layout c) d)) _ _ P
     (λ a.
-    cond_cases P (blocked c (split_all (layout c) d) mode)
+    cond_both (blocked c (split_all (layout c) d) mode) _ _ P
     (λ b. l.blocks f r n a b)
     (λ b. l.write f r (eqb-true (length d) (size_of c) n) (record { full = split_length (layout c) d; values = a; free = b })))
     (λ a. l.value f r n a))
@@ -82,7 +83,7 @@ judge_cases P mode t p first rest = go (command_of p.cmd1 p.cmd2) refl first
     go None e g = unfold judge_as in g (unknown_fault t p)
     go (Some c) e g =
         unfold judge_as in
-        cond_cases P (any_fault (faults (Some c) t p)) g (λ n. later P mode p.type p.flags c (held t ++ p.body) (rest c e n))
+        cond_both (any_fault (faults (Some c) t p)) _ _ P g (λ n. later P mode p.type p.flags c (held t ++ p.body) (rest c e n))
 
 -- what holds of a write that a judgement carries out, and of every other judgement
 abbrev pub OfWrite : (Command → List ℕ → Type 0) → Judgement → Type 0

@@ -1,5 +1,6 @@
 -- Fields that are allowed and the byte that is wrong; settings that keep the rules, and what a write leaves of them.
 use Rattle.std.specs.Prelude.{is_none, is_some, Option, Some}
+use Rattle.std.proofs.lemmas.Bool.{cond_both, and_from}
 use Prim.Native.Nat.{ℕ, ◌≤◌}
 use mathlib.Core.Path.{◌≡◌, refl, ap, sym, subst, ◌∙◌}
 use mathlib.Core.Bool.{Bool, true, false, cond, not, not-not, ◌&&◌, and-false}
@@ -8,7 +9,7 @@ use native.Mathlib.Omega.{arith}
 use lib.Dec.{eqb, leb}
 use borrow.Author.Tests.{not-true, leb-true}
 use lib.ListN.{length, get_or}
-use Rattle.packet.proofs.Cases.{bool_cases, cond_cases, and_left, and_right, and_both}
+use Rattle.packet.proofs.Cases.{bool_cases, true_and_left, true_and_right}
 use Rattle.command.specs.Data.{Fit}
 use Rattle.command.specs.Table.{table, cmd1_for, cmd2_for, find, command_of, same, layout}
 use Rattle.command.specs.Rules.{Field, all_valid, first_wrong, allowed, blocked, all_allowed, settings_in_rule}
@@ -75,26 +76,26 @@ unfolding all_allowed find
 all_allowed_lem s [] c e h = let z : ◌≡◌ {A = ℕ} 0 1 = cc in absurd (omega arith)
 all_allowed_lem s (d ∷ cs) c e h =
     bool_cases (same c d)
-    (λ t. rw (same_eq c d t) (and_left _ (all_allowed s cs) h))
-    (λ t. all_allowed_lem s cs c (find_later d cs (cmd1_for c) (cmd2_for c) (Some c) t e) (and_right (allowed d (values_of d s)) _ h))
+    (λ t. rw (same_eq c d t) (true_and_left _ (all_allowed s cs) h))
+    (λ t. all_allowed_lem s cs c (find_later d cs (cmd1_for c) (cmd2_for c) (Some c) t e) (true_and_right (allowed d (values_of d s)) _ h))
 
 each_allowed : (s : Settings) → ((c : Command) → allowed c (values_of c s) ≡ true) → (cs : List Command) → all_allowed s cs ≡ true
 unfolding all_allowed
 each_allowed s h [] = refl
-each_allowed s h (c ∷ cs) = and_both _ _ (h c) (each_allowed s h cs)
+each_allowed s h (c ∷ cs) = and_from _ _ (h c) (each_allowed s h cs)
 
 -- the test of refusal 3 says so
 pub kept_by : (s : Settings) → settings_in_rule s ≡ true → Kept s
 unfolding settings_in_rule command_of
 kept_by s h =
     record {
-      values = λ c. all_allowed_lem s table c (found c) (and_left _ _ h);
-      running = not-true _ (and_right (all_allowed s table) _ h);
+      values = λ c. all_allowed_lem s table c (found c) (true_and_left _ _ h);
+      running = not-true _ (true_and_right (all_allowed s table) _ h);
     }
 
 pub in_rule_of : (s : Settings) → Kept s → settings_in_rule s ≡ true
 unfolding settings_in_rule
-in_rule_of s k = and_both _ _ (each_allowed s k.values table) (ap not k.running)
+in_rule_of s k = and_from _ _ (each_allowed s k.values table) (ap not k.running)
 
 -- a write that may be carried out in a display mode
 pub record Writable (mode : ℕ) (c : Command) (v : List ℕ) : Type 0 where
@@ -111,11 +112,11 @@ after_cases : (P : Command → List ℕ → Type 0) (c : Command) (v : List ℕ)
     → P e (values_after c v s e)
 unfolding values_after
 after_cases P c v s w z k e =
-    cond_cases (P e) (same e c)
+    cond_both (same e c) _ _ (P e)
     (λ x. subst (λ (d : Command). P d v) (sym (same_eq e c x)) w)
     (λ _.
-    cond_cases (P e) (same c DisplayMode && same e SequenceRun && not (eqb (get_or v 0 0) 4))
-    (λ x. subst (λ (d : Command). P d (0 ∷ [])) (sym (same_eq e SequenceRun (and_right (same c DisplayMode) _ (and_left _ _ x)))) z)
+    cond_both (same c DisplayMode && same e SequenceRun && not (eqb (get_or v 0 0) 4)) _ _ (P e)
+    (λ x. subst (λ (d : Command). P d (0 ∷ [])) (sym (same_eq e SequenceRun (true_and_right (same c DisplayMode) _ (true_and_left _ _ x)))) z)
     (λ _. k e))
 
 pub length_values : (s : Settings) (e : Command) → length (values_of e s) ≡ length (layout e)

@@ -8,7 +8,7 @@ use lib.Dec.{eqb}
 use borrow.Author.Tests.{eqb-true}
 use Rattle.std.specs.List.{list_any}
 use Rattle.std.proofs.lemmas.Bool.Decides.{nat_tests}
-use Rattle.packet.proofs.Cases.{bool_cases, and_left, and_right, or_cases, never}
+use Rattle.packet.proofs.Cases.{bool_cases, true_and_left, true_and_right, true_or_cases, never}
 use Rattle.command.specs.Rules.{listed, pairs}
 use Rattle.command.specs.declared.rules.Resolution.{Resolution}
 use Rattle.command.specs.declared.rules.TheConstants.{SUPPORTED_RESOLUTIONS}
@@ -22,10 +22,10 @@ listed_too : (ps qs : List (ℕ × ℕ)) → all_listed ps qs ≡ true → (x y 
 unfolding all_listed
 listed_too [] qs h x y e = never e
 listed_too (p ∷ ps) qs h x y e =
-    or_cases (eqb x p.0 && eqb y p.1) (listed x y ps)
+    true_or_cases (eqb x p.0 && eqb y p.1) (listed x y ps)
     (λ same.
-    rw (eqb-true x p.0 (and_left _ (eqb y p.1) same), eqb-true y p.1 (and_right (eqb x p.0) _ same)) (and_left _ (all_listed ps qs) h))
-    (λ later. listed_too ps qs (and_right (listed p.0 p.1 qs) _ h) x y later)
+    rw (eqb-true x p.0 (true_and_left _ (eqb y p.1) same), eqb-true y p.1 (true_and_right (eqb x p.0) _ same)) (true_and_left _ (all_listed ps qs) h))
+    (λ later. listed_too ps qs (true_and_right (listed p.0 p.1 qs) _ h) x y later)
     e
 
 -- the order in which pairs are listed does not matter

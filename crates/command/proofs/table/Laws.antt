@@ -9,7 +9,7 @@ use lib.Dec.{eqb}
 use borrow.Author.Tests.{eqb-true}
 use lib.ListN.{length, get_or}
 use Rattle.packet.specs.Packet.{sum}
-use Rattle.packet.proofs.Cases.{bool_cases, and_left, and_right}
+use Rattle.packet.proofs.Cases.{bool_cases, true_and_left, true_and_right}
 use Rattle.command.specs.Data.{Fit}
 use Rattle.command.specs.Table.{table, cmd1_for, cmd2_for, has_code, find, command_of, same, layout, size_of}
 use Rattle.command.specs.Settings.{values_of, settings_of}
@@ -37,7 +37,7 @@ unfolding command_of find
 found = each (λ c. command_of (cmd1_for c) (cmd2_for c) ≡ Some c) (refl, refl, refl, refl, refl, refl, refl, refl, refl)
 
 has_code_lem : (a b : ℕ) (c : Command) → has_code a b c ≡ true → (a ≡ cmd1_for c) × (b ≡ cmd2_for c)
-has_code_lem a b c h = (eqb-true _ _ (and_left _ _ h), eqb-true _ _ (and_right (eqb a (cmd1_for c)) _ h))
+has_code_lem a b c h = (eqb-true _ _ (true_and_left _ _ h), eqb-true _ _ (true_and_right (eqb a (cmd1_for c)) _ h))
 
 -- where the first command has other bytes, the search goes on
 pub find_later : (d : Command) (cs : List Command) (a b : ℕ) (f : Option Command) → has_code a b d ≡ false → find a b (d ∷ cs) ≡ f → find a b cs ≡ f

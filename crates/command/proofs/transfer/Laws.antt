@@ -10,7 +10,7 @@ use lib.ListN.{length, take}
 use lib.Seq.{length-take-le}
 use borrow.Author.Tests.{eq-eqb, ne_eqb, eqb-true, eqb-false, ltb-false, leb-true, not-false}
 use Rattle.packet.specs.Packet.{host_write, host_read, whole, beginning, intermediate, last}
-use Rattle.packet.proofs.Cases.{bool_cases, and_left, and_right, or_left, or_right}
+use Rattle.packet.proofs.Cases.{bool_cases, true_and_left, true_and_right, false_or_left, false_or_right}
 use Rattle.command.specs.Table.{cmd1_for, cmd2_for, has_code, command_of, same, readable}
 use Rattle.command.specs.Transfer.{Transfer, Closed, Opened, is_open, held, open_for}
 use Rattle.command.specs.Faults.{Arrived, continues, wrong_command, too_long, wrong_order, faults, any_fault}
@@ -24,9 +24,9 @@ use Rattle.command.proofs.table.Laws.{known_code}
 
 none_of_four : (a b c d : Bool) → (a || b || c || d) ≡ false → (a ≡ false) × (b ≡ false) × (c ≡ false) × (d ≡ false)
 none_of_four a b c d h =
-    let abc = or_left (a || b || c) d h in
-    let ab = or_left (a || b) c abc in
-    (or_left a b ab, or_right a b ab, or_right (a || b) c abc, or_right (a || b || c) d h)
+    let abc = false_or_left (a || b || c) d h in
+    let ab = false_or_left (a || b) c abc in
+    (false_or_left a b ab, false_or_right a b ab, false_or_right (a || b) c abc, false_or_right (a || b || c) d h)
 
 pub record Faultless (f : Option Command) (t : Transfer) (p : Arrived) : Type 0 where
   pub command : wrong_command f p.type ≡ false
@@ -64,8 +64,8 @@ continues_open o type flags h =
     (omega (
       arith,
       ltb-false last flags n.0,
-      eqb-false flags whole (or_left (eqb flags whole) (eqb flags beginning) w),
-      eqb-false flags beginning (or_right (eqb flags whole) (eqb flags beginning) w),
+      eqb-false flags whole (false_or_left (eqb flags whole) (eqb flags beginning) w),
+      eqb-false flags beginning (false_or_right (eqb flags whole) (eqb flags beginning) w),
       eqb-false flags intermediate e,
     ))))
 
@@ -100,12 +100,12 @@ fits_hold f t p h = let k = faultless f t p h in go t k.memory k.continuation
   where
     go : (t : Transfer) → too_long (is_open t) (length (held t)) p.flags p.size ≡ false → wrong_order (is_open t) (open_for f t) p.type p.flags ≡ false
         → length (held t) + p.size ≤ 1024
-    go Closed l o = unfold too_long in omega (arith, ltb-false 1024 p.size (or_left (ltb 1024 p.size) (continues p.flags && false && ltb 1024 (0 + p.size)) l))
+    go Closed l o = unfold too_long in omega (arith, ltb-false 1024 p.size (false_or_left (ltb 1024 p.size) (continues p.flags && false && ltb 1024 (0 + p.size)) l))
     go (Opened c d) l o =
         unfold too_long in
         ltb-false 1024 (length d + p.size)
         (sym (ap (λ (b : Bool). b && true && ltb 1024 (length d + p.size)) (continues_open (open_for f (Opened c d)) p.type p.flags o))
-        ∙ or_right (ltb 1024 p.size) (continues p.flags && true && ltb 1024 (length d + p.size)) l)
+        ∙ false_or_right (ltb 1024 p.size) (continues p.flags && true && ltb 1024 (length d + p.size)) l)
 
 -- A transfer by the controller's numbers, in rule: none is open, or one for a command of the table.
 module _ (t : TransferState) (r : transfer_in_rule t ≡ true) where
@@ -115,7 +115,7 @@ module _ (t : TransferState) (r : transfer_in_rule t ≡ true) where
       bool_cases (eqb t.active 0) none
       (λ e. known (command_of t.cmd1 t.cmd2) refl
       (subst (λ (b : Bool). (b || is_some (command_of t.cmd1 t.cmd2)) ≡ true) e
-      (and_right (leb t.held 1024) (eqb t.active 0 || is_some (command_of t.cmd1 t.cmd2)) r))
+      (true_and_right (leb t.held 1024) (eqb t.active 0 || is_some (command_of t.cmd1 t.cmd2)) r))
       (λ c k. some c e k))
     where
       known : {P : Type 0} (f : Option Command) → command_of t.cmd1 t.cmd2 ≡ f → is_some f ≡ true → ((c : Command) → command_of t.cmd1 t.cmd2 ≡ Some c → P) → P
@@ -124,7 +124,7 @@ module _ (t : TransferState) (r : transfer_in_rule t ≡ true) where
 
   pub count_most : t.held ≤ 1024
   unfolding transfer_in_rule
-  count_most = leb-true t.held 1024 (and_left (leb t.held 1024) (eqb t.active 0 || is_some (command_of t.cmd1 t.cmd2)) r)
+  count_most = leb-true t.held 1024 (true_and_left (leb t.held 1024) (eqb t.active 0 || is_some (command_of t.cmd1 t.cmd2)) r)
 
   pub held_most : held_in t ≤ 1024
   held_most = bool_cases (eqb t.active 0) (λ e. rw e (omega arith)) (λ e. rw e count_most)

@@ -2,10 +2,10 @@
 use Rattle.std.proofs.Common.{◌≡◌, ℕ, suc, Bool, ◌+◌, ◌*◌, true, false, leb, List, ◌∷◌, get_or, sym, refl, ap, ◌∙◌, arith}
 use Rattle.std.specs.Prelude.{Option, None, Some, Result, Ok, Err}
 use Rattle.std.proofs.lemmas.Bool.Decides.{nat_tests}
+use Rattle.std.proofs.lemmas.Bool.{cond_both}
 use lib.Count.{ones_in, ones}
 use Rattle.packet.specs.Number.{bytes_of}
 use Rattle.packet.specs.Packet.{payload}
-use Rattle.packet.proofs.Cases.{cond_cases}
 use Rattle.dlpc200.specs.Packet.{checksum, right_sum, packet_of}
 use Rattle.dlpc200.specs.Table.{cmd1_for}
 use Rattle.dlpc200.specs.States.{park_after, in_range}
@@ -51,7 +51,7 @@ known_done (Some d) c h = cc
 pub done_faultless : (p : Arrived) (c : Command) → judge p ≡ Ok c → (any_fault (faults_of p) ≡ false) × (p.command ≡ Some c)
 unfolding judge
 done_faultless p c =
-    cond_cases (λ j. j ≡ Ok c → (any_fault (faults_of p) ≡ false) × (p.command ≡ Some c)) (any_fault (faults_of p))
+    cond_both (any_fault (faults_of p)) _ _ (λ j. j ≡ Ok c → (any_fault (faults_of p) ≡ false) × (p.command ≡ Some c))
     (λ e h. cc)
     (λ e h. (e, known_done p.command c h))
 
@@ -119,6 +119,6 @@ bits_command s n (Some c) = unfold fault_bits ones ones_in in refl
 pub faults_told : (s : States) (p : Arrived) → fault_bits (get_or (response s p (judge p)) 6 0) (get_or (response s p (judge p)) 7 0) ≡ faults_held (faults_of p)
 unfolding response judge bits_of
 faults_told s p =
-    cond_cases (λ j. bits_of s (response_type p.cmd1) j ≡ faults_held (faults_of p)) (any_fault (faults_of p))
+    cond_both (any_fault (faults_of p)) _ _ (λ j. bits_of s (response_type p.cmd1) j ≡ faults_held (faults_of p))
     (λ e. bits_failed s (response_type p.cmd1) (faults_of p))
     (λ e. bits_command s (response_type p.cmd1) p.command ∙ sym (none_held (faults_of p) e))

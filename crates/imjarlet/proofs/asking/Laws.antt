@@ -4,7 +4,7 @@ use mathlib.Core.Path.{◌≡◌, refl}
 use mathlib.Core.List.{List}
 use lib.Dec.{ltb}
 use lib.ListN.{length}
-use Rattle.packet.proofs.Cases.{cond_cases}
+use Rattle.std.proofs.lemmas.Bool.{cond_both}
 use Rattle.command.specs.Controller.{in_rule}
 use Rattle.command.specs.Encoder.{refusal_of, length_of, outcome_told}
 use Rattle.command.specs.Ruling.{forged, items_of, items_kept, same_items}
@@ -15,7 +15,7 @@ use Rattle.command.specs.declared.ruling.JudgementRecord.{JudgementRecord}
 
 pub judge_says : (c : Controller) (b : List ℕ) (lent : JudgementRecord) → refusal_said (number_of (judge_call c b lent).refusal) ≡ (judge_call c b lent).refusal
 unfolding judge_call
-judge_says c b lent = cond_cases Says (in_rule c) (λ _. cond_cases Says (one_packet b) (λ _. refl) (λ _. refl)) (λ _. refl)
+judge_says c b lent = cond_both (in_rule c) _ _ Says (λ _. cond_both (one_packet b) _ _ Says (λ _. refl) (λ _. refl)) (λ _. refl)
   where
     Says : Judging → Type 0
     Says x = refusal_said (number_of x.refusal) ≡ x.refusal
@@ -24,9 +24,9 @@ pub carry_says : (c : Controller) (j : JudgementRecord) (out : List ℕ)
     → let r = carry_call c j out in outcome_told (refusal_of r.answer) (length_of r.answer) ≡ r.answer
 unfolding carry_call
 carry_says c j out =
-    cond_cases Says (ltb (length out) 64) (λ _. refl)
-    (λ _. cond_cases Says (in_rule c)
-    (λ _. cond_cases Says (forged j) (λ _. refl) (λ _. cond_cases Says (same_items (items_of c) (items_kept j)) (λ _. refl) (λ _. refl)))
+    cond_both (ltb (length out) 64) _ _ Says (λ _. refl)
+    (λ _. cond_both (in_rule c) _ _ Says
+    (λ _. cond_both (forged j) _ _ Says (λ _. refl) (λ _. cond_both (same_items (items_of c) (items_kept j)) _ _ Says (λ _. refl) (λ _. refl)))
     (λ _. refl))
   where
     Says : Carrying → Type 0

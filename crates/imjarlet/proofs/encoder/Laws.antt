@@ -5,7 +5,7 @@ use mathlib.Core.List.{List}
 use Prim.Native.Nat.{ℕ}
 use lib.Dec.{ltb}
 use lib.ListN.{length}
-use Rattle.packet.proofs.Cases.{cond_cases}
+use Rattle.std.proofs.lemmas.Bool.{cond_both}
 use Rattle.command.specs.Rules.{allowed, settings_in_rule}
 use Rattle.command.specs.Value.{command_in, values_in}
 use Rattle.command.specs.Encoder.{Outcome, refusal_of, length_of, outcome_told, After, refused, encode_call, list_call}
@@ -27,11 +27,11 @@ emitted x answer h a numbers o =
 pub encode_says : (v : Value) (out : List ℕ) → Says (encode_call v out)
 unfolding encode_call
 encode_says v out =
-    cond_cases Says (ltb (length out) 64) (λ _. refl) (λ _. cond_cases Says (allowed (command_in v) (values_in v)) (λ _. refl) (λ _. refl))
+    cond_both (ltb (length out) 64) _ _ Says (λ _. refl) (λ _. cond_both (allowed (command_in v) (values_in v)) _ _ Says (λ _. refl) (λ _. refl))
 
 pub list_says : (s : Settings) (out : List ℕ) → Says (list_call s out)
 unfolding list_call
-list_says s out = cond_cases Says (ltb (length out) 128) (λ _. refl) (λ _. cond_cases Says (settings_in_rule s) (λ _. refl) (λ _. refl))
+list_says s out = cond_both (ltb (length out) 128) _ _ Says (λ _. refl) (λ _. cond_both (settings_in_rule s) _ _ Says (λ _. refl) (λ _. refl))
 
 pub unknown_says : (short : Bool) (out : List ℕ) → Says (refused (cond short 1 2) out)
 unknown_says true out = refl

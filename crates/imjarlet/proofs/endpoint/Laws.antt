@@ -9,7 +9,7 @@ use lib.Dec.{eqb, ltb}
 use lib.ListN.{length, length-append}
 use Rattle.packet.specs.Packet.{whole, checksum, header, sealed, packet_of}
 use Rattle.packet.specs.Receiver.{Received}
-use Rattle.packet.proofs.Cases.{cond_cases}
+use Rattle.std.proofs.lemmas.Bool.{cond_both}
 use Rattle.packet.proofs.Answering.{Sayable}
 use Rattle.command.specs.Controller.{in_rule}
 use Rattle.command.specs.Response.{response_type, response_data, response}
@@ -27,8 +27,8 @@ some_bytes c t =
 pub answer_sayable : (c : Controller) (input out : List ℕ) → Sayable (receive_call c input out).answer
 unfolding receive_call
 answer_sayable c input out =
-    cond_cases Says (ltb (length out) 64) (λ _. refl)
-    (λ _. cond_cases Says (in_rule c) (λ _. cond_cases Says (taken_by c input).complete (λ _. some_bytes c (taken_by c input)) (λ _. tt)) (λ _. refl))
+    cond_both (ltb (length out) 64) _ _ Says (λ _. refl)
+    (λ _. cond_both (in_rule c) _ _ Says (λ _. cond_both (taken_by c input).complete _ _ Says (λ _. some_bytes c (taken_by c input)) (λ _. tt)) (λ _. refl))
   where
     Says : After → Type 0
     Says x = Sayable x.answer

@@ -9,8 +9,9 @@ use Rattle.packet.specs.Number.{Bytes}
 use Rattle.packet.specs.Packet.{payload_length, payload, checksum, right_sum}
 use Rattle.packet.specs.Stream.{next_in, size, has_packet, packets_in, packets, bytes_in, rest}
 use Rattle.std.specs.Prelude.{None, Some}
+use Rattle.std.proofs.lemmas.Bool.{cond_both, and_from}
 use Rattle.packet.specs.declared.stream.WholePacket.{WholePacket}
-use Rattle.packet.proofs.Cases.{cond_cases, bool_cases, and_right, and_both}
+use Rattle.packet.proofs.Cases.{bool_cases, true_and_right}
 use Rattle.packet.proofs.number.Laws.{bytes_take, bytes_drop}
 
 -- p is one whole packet
@@ -29,7 +30,7 @@ size_append p b h = rw (get_or-append p b 0 4 (omega arith), get_or-append p b 0
 
 pub has_packet_lem : (b : List ℕ) → 7 ≤ length b → size b ≤ length b → has_packet b ≡ true
 unfolding has_packet
-has_packet_lem b h l = and_both (leb 7 (length b)) (leb (size b) (length b)) (le-leb 7 (length b) h) (le-leb (size b) (length b) l)
+has_packet_lem b h l = and_from (leb 7 (length b)) (leb (size b) (length b)) (le-leb 7 (length b) h) (le-leb (size b) (length b) l)
 
 pub no_header : (b : List ℕ) → length b < 7 → has_packet b ≡ false
 unfolding has_packet
@@ -41,7 +42,7 @@ no_end b h = rw (lt-leb (size b) (length b) h, and-false (leb 7 (length b)))
 
 pub size_within : (b : List ℕ) → has_packet b ≡ true → size b ≤ length b
 unfolding has_packet
-size_within b h = leb-true (size b) (length b) (and_right (leb 7 (length b)) (leb (size b) (length b)) h)
+size_within b h = leb-true (size b) (length b) (true_and_right (leb 7 (length b)) (leb (size b) (length b)) h)
 
 pub seven : (b : List ℕ) → 7 ≤ size b
 unfolding size
@@ -211,7 +212,7 @@ some_bytes : (n : ℕ) (b : List ℕ) → Bytes b → AllBytes (packets_in n b)
 unfolding packets_in
 some_bytes zero b h = tt
 some_bytes (suc n) b h =
-    cond_cases AllBytes (has_packet b)
+    cond_both (has_packet b) _ _ AllBytes
     (λ e. (bytes_take (size b) b h, some_bytes n (drop (size b) b) (bytes_drop (size b) b h)))
     (λ e. tt)
 

@@ -1,5 +1,6 @@
 -- Writing a packet: what the buffer holds, and that what was written is one whole packet with a right checksum.
 use Rattle.std.proofs.Common.{◌≡◌, ℕ, suc, ◌+◌, ◌-◌, ◌*◌, ◌/◌, ◌%◌, ◌<◌, ◌≤◌, true, false, eqb, leb, List, [], ◌∷◌, ◌++◌, length, get_or, take, drop, set, sym, refl, ap, ◌∙◌, append_assoc, append-nil, mod-eq_of_lt, zero-add, arith, length-append, length-drop, drop_of_length-le, length-take-le, take_all, take-suc, drop-drop, take_at, drop_at, eq-eqb, eqb-true, le-leb}
+use Rattle.std.proofs.lemmas.Bool.{and_from}
 use mathlib.Core.Bool.{and-false}
 use borrow.Author.Tests.{lt-leb}
 use borrow.Rule.Slice.PartMut.{put_mid}
@@ -8,7 +9,6 @@ use Rattle.packet.specs.Number.{Bytes, bytes_of}
 use Rattle.packet.specs.Packet.{type_of, cmd1_of, cmd2_of, flags_of, payload_length, payload, checksum, right_sum, header, sealed, packet_of}
 use Rattle.packet.specs.Stream.{size}
 use Rattle.packet.specs.Writer.{fits, written}
-use Rattle.packet.proofs.Cases.{and_both}
 use Rattle.packet.proofs.bytes.Laws.{sets_append, sets_front}
 use Rattle.packet.proofs.stream.Laws.{IsPacket}
 
@@ -24,7 +24,7 @@ module _ (room : ℕ) (d : List ℕ) where
 
   pub has_room : length d ≤ 65535 → length d + 7 ≤ room → fits room d ≡ true
   unfolding fits
-  has_room h l = and_both (leb (length d) 65535) (leb (length d + 7) room) (le-leb (length d) 65535 h) (le-leb (length d + 7) room l)
+  has_room h l = and_from (leb (length d) 65535) (leb (length d + 7) room) (le-leb (length d) 65535 h) (le-leb (length d + 7) room l)
 
 -- bytes and then their checksum, stored at the start of a buffer
 pub sealed_front : (xs l : List ℕ) → length xs < length l

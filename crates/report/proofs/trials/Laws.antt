@@ -7,7 +7,8 @@ use native.Mathlib.Omega.{arith}
 use lib.Dec.{leb, ltb}
 use borrow.Author.Tests.{le-leb, leb-true, lt-ltb, ltb-true, ltb-false}
 use lib.ListN.{length, length-append}
-use Rattle.packet.proofs.Cases.{bool_cases, and_left, and_right, and_both}
+use Rattle.std.proofs.lemmas.Bool.{and_from}
+use Rattle.packet.proofs.Cases.{bool_cases, true_and_left, true_and_right}
 use Rattle.command.specs.Settings.{factory}
 use Rattle.command.specs.declared.settings.Settings.{Settings}
 use Rattle.command.specs.Player.{play}
@@ -19,39 +20,39 @@ use Rattle.report.specs.Inner.{First}
 none_below_lem : (n : ℕ) (ts : List Trial) → none_below n ts ≡ true → (i : ℕ) → i < length ts → n ≤ score_at ts i
 unfolding none_below score_at
 none_below_lem n [] h i l = absurd (omega arith)
-none_below_lem n (t ∷ ts) h zero l = leb-true n t.score (and_left (leb n t.score) (none_below n ts) h)
-none_below_lem n (t ∷ ts) h (suc i) l = none_below_lem n ts (and_right (leb n t.score) (none_below n ts) h) i (omega arith)
+none_below_lem n (t ∷ ts) h zero l = leb-true n t.score (true_and_left (leb n t.score) (none_below n ts) h)
+none_below_lem n (t ∷ ts) h (suc i) l = none_below_lem n ts (true_and_right (leb n t.score) (none_below n ts) h) i (omega arith)
 
 none_below_back : (n : ℕ) (ts : List Trial) → ((i : ℕ) → i < length ts → n ≤ score_at ts i) → none_below n ts ≡ true
 unfolding none_below score_at
 none_below_back n [] h = refl
 none_below_back n (t ∷ ts) h =
-    and_both (leb n t.score) (none_below n ts) (le-leb n t.score (h 0 (omega arith))) (none_below_back n ts (λ i l. h (suc i) (omega arith)))
+    and_from (leb n t.score) (none_below n ts) (le-leb n t.score (h 0 (omega arith))) (none_below_back n ts (λ i l. h (suc i) (omega arith)))
 
 earlier_above_lem : (n k : ℕ) (ts : List Trial) → k ≤ length ts → earlier_above n k ts ≡ true → (i : ℕ) → i < k → n < score_at ts i
 unfolding earlier_above score_at
 earlier_above_lem n k [] m h i l = absurd (omega arith)
 earlier_above_lem n zero (t ∷ ts) m h i l = absurd (omega arith)
-earlier_above_lem n (suc k) (t ∷ ts) m h zero l = ltb-true n t.score (and_left (ltb n t.score) (earlier_above n k ts) h)
-earlier_above_lem n (suc k) (t ∷ ts) m h (suc i) l = earlier_above_lem n k ts (omega arith) (and_right (ltb n t.score) (earlier_above n k ts) h) i (omega arith)
+earlier_above_lem n (suc k) (t ∷ ts) m h zero l = ltb-true n t.score (true_and_left (ltb n t.score) (earlier_above n k ts) h)
+earlier_above_lem n (suc k) (t ∷ ts) m h (suc i) l = earlier_above_lem n k ts (omega arith) (true_and_right (ltb n t.score) (earlier_above n k ts) h) i (omega arith)
 
 earlier_above_back : (n k : ℕ) (ts : List Trial) → ((i : ℕ) → i < k → n < score_at ts i) → earlier_above n k ts ≡ true
 unfolding earlier_above score_at
 earlier_above_back n k [] h = refl
 earlier_above_back n zero (t ∷ ts) h = refl
 earlier_above_back n (suc k) (t ∷ ts) h =
-    and_both (ltb n t.score) (earlier_above n k ts) (lt-ltb n t.score (h 0 (omega arith))) (earlier_above_back n k ts (λ i l. h (suc i) (omega arith)))
+    and_from (ltb n t.score) (earlier_above n k ts) (lt-ltb n t.score (h 0 (omega arith))) (earlier_above_back n k ts (λ i l. h (suc i) (omega arith)))
 
 pub lowest_true : (ts : List Trial) (k : ℕ) → k < length ts → first_lowest ts k ≡ true → FirstLowest ts k
 unfolding first_lowest
 lowest_true ts k l h = record {
-  lowest = none_below_lem (score_at ts k) ts (and_left (none_below (score_at ts k) ts) (earlier_above (score_at ts k) k ts) h);
-  earlier = earlier_above_lem (score_at ts k) k ts (omega arith) (and_right (none_below (score_at ts k) ts) (earlier_above (score_at ts k) k ts) h);
+  lowest = none_below_lem (score_at ts k) ts (true_and_left (none_below (score_at ts k) ts) (earlier_above (score_at ts k) k ts) h);
+  earlier = earlier_above_lem (score_at ts k) k ts (omega arith) (true_and_right (none_below (score_at ts k) ts) (earlier_above (score_at ts k) k ts) h);
 }
 
 pub lowest_back : (ts : List Trial) (k : ℕ) → FirstLowest ts k → first_lowest ts k ≡ true
 unfolding first_lowest
-lowest_back ts k f = and_both (none_below (score_at ts k) ts) (earlier_above (score_at ts k) k ts) (none_below_back (score_at ts k) ts f.lowest) (earlier_above_back (score_at ts k) k ts f.earlier)
+lowest_back ts k f = and_from (none_below (score_at ts k) ts) (earlier_above (score_at ts k) k ts) (none_below_back (score_at ts k) ts f.lowest) (earlier_above_back (score_at ts k) k ts f.earlier)
 
 -- the first of the lowest is one
 pub lowest_one : (ts : List Trial) (j k : ℕ) → j < length ts → k < length ts → FirstLowest ts j → FirstLowest ts k → j ≡ k

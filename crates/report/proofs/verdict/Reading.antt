@@ -4,13 +4,14 @@ use mathlib.Core.Path.{◌≡◌, refl, ap, ap₂, sym, ◌∙◌, subst}
 use mathlib.Core.Bool.{Bool, true, false, not, ◌&&◌}
 use mathlib.Core.List.{List, [], ◌∷◌, ◌++◌, append_assoc, append-nil}
 use Rattle.std.specs.Prelude.{Option, None, Some}
+use Rattle.std.proofs.lemmas.Bool.{and_from}
 use native.Mathlib.Omega.{arith}
 use lib.Dec.{leb, eqb}
 use borrow.Author.Tests.{leb-true, leb-false, le-leb, eqb-true, eqb-false, ltb-true, ltb-false, not-true}
 use lib.ListN.{length, take, drop, length-append, take-append-drop, length-drop}
 use lib.Seq.{drop_at, drop-drop, length-take-le}
 use Rattle.packet.specs.Number.{value_of, bytes_of, Bytes}
-use Rattle.packet.proofs.Cases.{bool_cases, and_right, and_both}
+use Rattle.packet.proofs.Cases.{bool_cases, true_and_right}
 use Rattle.packet.proofs.NumberLaws.{bytes_take, bytes_drop, bytes_value, value_bound}
 use Rattle.command.specs.Player.{is_nil}
 use Rattle.command.proofs.PlayerOffences.{nil_only}
@@ -75,7 +76,7 @@ short_false m n e =
     bool_cases (leb (4 + m) n)
     (λ t.
     let k : 4 ≤ n = omega (arith, leb-true (4 + m) n t) in
-    absurd (cc (and_both (leb 4 n) (leb (4 + m) n) (le-leb 4 n k) t)))
+    absurd (cc (and_from (leb 4 n) (leb (4 + m) n) (le-leb 4 n k) t)))
     (λ f. leb-false (4 + m) n f)
 
 -- a whole record is the record of its kind and body
@@ -104,7 +105,7 @@ reading_cut : (kind at : ℕ) (b : List ℕ) → Bytes b → Ends (Unread kind a
 unfolding reading
 reading_cut kind at b h =
     needs 11 at _ (λ t. Short (short_false (value_of (take 2 b)) (length b) t)) λ t.
-    let l : 4 + value_of (take 2 b) ≤ length b = leb-true (4 + value_of (take 2 b)) (length b) (and_right (leb 4 (length b)) (leb (4 + value_of (take 2 b)) (length b)) t) in
+    let l : 4 + value_of (take 2 b) ≤ length b = leb-true (4 + value_of (take 2 b)) (length b) (true_and_right (leb 4 (length b)) (leb (4 + value_of (take 2 b)) (length b)) t) in
     let whole = whole_cut b h l in
     let size = body_size b h l in
     needs_equal 12 at _ _ (λ e. Other (value_of (take 2 (drop 2 b))) _ _ whole (kind_bytes b h l).1 e) λ e.

@@ -5,7 +5,8 @@ use mathlib.Core.List.{List, [], ◌∷◌}
 use native.Mathlib.Omega.{arith}
 use borrow.Author.Tests.{not-true, not-false}
 use Rattle.std.proofs.lemmas.Grind.{common_steps}
-use Rattle.packet.proofs.Cases.{and_left, and_right, and_both}
+use Rattle.std.proofs.lemmas.Bool.{and_from}
+use Rattle.packet.proofs.Cases.{true_and_left, true_and_right}
 use Rattle.command.specs.Table.{table}
 use Rattle.command.specs.Settings.{values_of, settings_of}
 use Rattle.command.specs.declared.settings.Settings.{Settings}
@@ -23,12 +24,12 @@ Every P (c ∷ cs) = P c × Every P cs
 every_true : (f : Command → Bool) (cs : List Command) → every f cs ≡ true → Every (λ c. f c ≡ true) cs
 unfolding every
 every_true f [] h = tt
-every_true f (c ∷ cs) h = (and_left (f c) (every f cs) h, every_true f cs (and_right (f c) (every f cs) h))
+every_true f (c ∷ cs) h = (true_and_left (f c) (every f cs) h, every_true f cs (true_and_right (f c) (every f cs) h))
 
 every_all : (f : Command → Bool) → ((c : Command) → f c ≡ true) → (cs : List Command) → every f cs ≡ true
 unfolding every
 every_all f h [] = refl
-every_all f h (c ∷ cs) = and_both (f c) (every f cs) (h c) (every_all f h cs)
+every_all f h (c ∷ cs) = and_from (f c) (every f cs) (h c) (every_all f h cs)
 
 pub settings_true : (a b : Settings) → same_settings a b ≡ true → a ≡ b
 unfolding same_settings
