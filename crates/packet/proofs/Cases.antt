@@ -2,7 +2,7 @@
 -- is of what follows from that value; those of std (lemmas.Bool) go the other way, or give a sum.
 use mathlib.Core.Logic.{⊎_elim}
 use Rattle.std.proofs.Common.{◌≡◌, ℕ, ◌<◌, ◌≤◌, Bool, true, false, ◌&&◌, ◌||◌, refl}
-use Rattle.std.proofs.lemmas.Bool.{false≢true, and_from, and_parts, or_parts, and_cases, or_cases, cases_lt}
+use Rattle.std.proofs.lemmas.Bool.{false≢true, and_parts, or_parts, and_cases, or_cases, cases_lt}
 
 -- the two values of a test
 pub bool_cases : {P : Type 0} (b : Bool) → (b ≡ true → P) → (b ≡ false → P) → P
@@ -36,13 +36,3 @@ true_or_cases a b f g h = ⊎_elim f g (or_cases a b h)
 
 pub false_and_cases : {P : Type 0} (a b : Bool) → (a ≡ false → P) → (b ≡ false → P) → (a && b) ≡ false → P
 false_and_cases a b f g h = ⊎_elim f g (and_cases a b h)
-
--- Three more names of the above, and of `and_from`, for command's proofs of its controller and player.
-pub and_left : (a b : Bool) → (a && b) ≡ true → a ≡ true
-and_left = true_and_left
-
-pub and_right : (a b : Bool) → (a && b) ≡ true → b ≡ true
-and_right = true_and_right
-
-pub and_both : (a b : Bool) → a ≡ true → b ≡ true → (a && b) ≡ true
-and_both = and_from

@@ -2,7 +2,8 @@
 use mathlib.Core.Path.{◌≡◌}
 use mathlib.Core.Bool.{true, ◌&&◌}
 use Rattle.packet.specs.Receiver.{packet_in_rule}
-use Rattle.packet.proofs.Cases.{and_left, and_right, and_both}
+use Rattle.packet.proofs.Cases.{true_and_left, true_and_right}
+use Rattle.std.proofs.lemmas.Bool.{and_from}
 use Rattle.command.specs.Rules.{settings_in_rule}
 use Rattle.command.specs.Controller.{transfer_of, transfer_in_rule, parts_in_rule}
 use Rattle.command.specs.declared.settings.Settings.{Settings}
@@ -19,7 +20,7 @@ rule_parts s r h =
     let a = settings_in_rule s in
     let b = transfer_in_rule (transfer_of r) in
     let d = packet_in_rule r.header r.received in
-    record { settings = and_left a b (and_left (a && b) d h); transfer = and_right a b (and_left (a && b) d h); packet = and_right (a && b) d h }
+    record { settings = true_and_left a b (true_and_left (a && b) d h); transfer = true_and_right a b (true_and_left (a && b) d h); packet = true_and_right (a && b) d h }
 
 pub rule_whole : (s : Settings) (r : Registers) → Rule s r → parts_in_rule s r ≡ true
 unfolding parts_in_rule
@@ -27,4 +28,4 @@ rule_whole s r h =
     let a = settings_in_rule s in
     let b = transfer_in_rule (transfer_of r) in
     let d = packet_in_rule r.header r.received in
-    and_both (a && b) d (and_both a b h.settings h.transfer) h.packet
+    and_from (a && b) d (and_from a b h.settings h.transfer) h.packet

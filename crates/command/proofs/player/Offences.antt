@@ -11,7 +11,7 @@ use lib.ListN.{length, take, drop}
 use lib.Seq.{take_all}
 use borrow.Author.Tests.{not-true}
 use Rattle.packet.specs.Stream.{packets, bytes_in, rest}
-use Rattle.packet.proofs.Cases.{lt_cases, and_left, and_right, never}
+use Rattle.packet.proofs.Cases.{lt_cases, true_and_left, true_and_right, never}
 use Rattle.packet.proofs.StreamLaws.{packet_there, packet_within, rest_within}
 use Rattle.command.specs.Response.{acknowledged}
 use Rattle.command.specs.Transfer.{Transfer, Closed, Opened, is_open}
@@ -332,7 +332,7 @@ module _ (s : Settings) (b : List ℕ) where
   none_named = (
     λ e.
         let all = sym absent_is ∙ (absent_none (offence s b)).0 e in
-        let left = and_right (all_acknowledged (judgements_on s b)) _ all in
-        (and_left _ _ all, closed_not (play s b).transfer (not-true _ (and_right (is_nil (half_sent b)) _ left)), nil_only (half_sent b) (and_left _ _ left)),
+        let left = true_and_right (all_acknowledged (judgements_on s b)) _ all in
+        (true_and_left _ _ all, closed_not (play s b).transfer (not-true _ (true_and_right (is_nil (half_sent b)) _ left)), nil_only (half_sent b) (true_and_left _ _ left)),
     λ h. (absent_none (offence s b)).1 (absent_is ∙ rw (h.0, h.1, h.2)),
   )
