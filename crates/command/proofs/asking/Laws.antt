@@ -9,13 +9,14 @@ use native.Mathlib.Omega.{arith}
 use lib.ListN.{length, length-append}
 use lib.Seq.{sets}
 use borrow.Author.Tests.{eq-eqb}
-use Rattle.packet.specs.Packet.{cmd1_of, cmd2_of, payload}
+use Rattle.packet.specs.Packet.{cmd1_of, cmd2_of, payload, error}
 use Rattle.packet.specs.Stream.{size, has_packet}
 use Rattle.packet.specs.Writer.{written}
 use Rattle.packet.proofs.BytesLaws.{sets_append, sets_front}
 use Rattle.command.specs.Transfer.{Transfer, held}
 use Rattle.command.specs.Faults.{Arrived, arrived}
 use Rattle.command.specs.Judgement.{judge}
+use Rattle.command.specs.Response.{response_type}
 use Rattle.command.specs.Player.{judged}
 use Rattle.command.specs.Controller.{transfer_of, transfer_in, in_rule}
 use Rattle.command.specs.Ruling.{data_for, ruling_of}
@@ -33,6 +34,13 @@ use Rattle.command.proofs.judgement.Laws.{judge_cases}
 use Rattle.command.proofs.controller.Laws.{rule_parts}
 
 -- The data that a judgement holds: with an error those that were held, else the packet's too.
+
+pub data_error : (h b : List ℕ) (j : Judgement) → response_type j ≡ error → data_for h b j ≡ h
+data_error h b (Error k) e = refl
+data_error h b (Hold c) e = absurd (omega arith)
+data_error h b (Write v) e = absurd (omega arith)
+data_error h b (Read c) e = absurd (omega arith)
+
 pub data_accepted : (h b : List ℕ) (j : Judgement) → ((k : Codes) → j ≡ Error k → ⊥) → data_for h b j ≡ h ++ b
 data_accepted h b (Error k) e = absurd (e k refl)
 data_accepted h b (Hold c) e = refl

@@ -1,5 +1,6 @@
 -- Playing: what it keeps, and packets in two runs.
 use Prim.Native.Nat.{ℕ}
+use mathlib.Core.Path.{◌≡◌, refl}
 use mathlib.Core.List.{List, [], ◌∷◌, ◌++◌}
 use Rattle.packet.specs.Number.{Bytes}
 use Rattle.packet.specs.Packet.{payload_length, payload}
@@ -81,3 +82,9 @@ kept_after a (p ∷ ps) h =
 pub kept_play : (s : Settings) (b : List ℕ) → Kept s → Kept (play s b).settings
 unfolding play
 kept_play s b h = kept_after (from s) (packets b) h
+
+-- Packets in two runs.
+pub after_append : (a : State) (ps qs : List (List ℕ)) → after a (ps ++ qs) ≡ after (after a ps) qs
+unfolding after
+after_append a [] qs = refl
+after_append a (p ∷ ps) qs = after_append (next a p) ps qs

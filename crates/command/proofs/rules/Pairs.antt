@@ -1,11 +1,13 @@
 -- Which resolutions are listed: the order of the table does not matter, and two are one where they are packed alike.
-use mathlib.Core.Path.{◌≡◌, refl, sym, ◌∙◌}
+use mathlib.Core.Path.{◌≡◌, refl, sym, ap, ◌∙◌}
 use mathlib.Core.List.{List, [], ◌∷◌, map, reverse}
-use mathlib.Core.Bool.{Bool, true, ◌&&◌}
-use Prim.Native.Nat.{ℕ, ◌/◌, ◌%◌}
+use mathlib.Core.Bool.{Bool, true, false, ◌&&◌, ◌||◌, or-true}
+use Prim.Native.Nat.{ℕ, zero, suc, ◌≤◌, ◌<◌, ◌-◌, ◌/◌, ◌%◌}
+use native.Mathlib.Nat.{le_of_suc-le-suc, not-suc-le-zero}
 use native.Mathlib.Omega.{arith}
 use lib.Dec.{eqb}
-use borrow.Author.Tests.{eqb-true}
+use lib.ListN.{length, take, get_or}
+use borrow.Author.Tests.{eqb-true, eq-eqb, ne_eqb}
 use Rattle.std.specs.List.{list_any}
 use Rattle.std.proofs.lemmas.Bool.Decides.{nat_tests}
 use Rattle.packet.proofs.Cases.{bool_cases, true_and_left, true_and_right, true_or_cases, never}
@@ -14,7 +16,7 @@ use Rattle.command.specs.declared.rules.Resolution.{Resolution}
 use Rattle.command.specs.declared.rules.TheConstants.{SUPPORTED_RESOLUTIONS}
 
 -- every pair of the first list is in the second
-unfoldable all_listed : List (ℕ × ℕ) → List (ℕ × ℕ) → Bool
+unfoldable pub all_listed : List (ℕ × ℕ) → List (ℕ × ℕ) → Bool
 all_listed [] qs = true
 all_listed (p ∷ ps) qs = listed p.0 p.1 qs && all_listed ps qs
 
@@ -48,3 +50,32 @@ table_listed = same_listed (map (λ r. (r.x, r.y)) (reverse SUPPORTED_RESOLUTION
 pub packed_alike : (x y : ℕ) (r : Resolution) (m n : ℕ) → (m / 65536 ≡ x) × (m % 65536 ≡ y) → (n / 65536 ≡ r.x) × (n % 65536 ≡ r.y)
     → eqb m n ≡ is_at x y r
 packed_alike x y r m n p q = grind (arith, nat_tests)
+
+-- where they are equal, and where they differ
+pub same : (x y : ℕ) (r : Resolution) (m n : ℕ) → (m / 65536 ≡ x) × (m % 65536 ≡ y) → (n / 65536 ≡ r.x) × (n % 65536 ≡ r.y) → m ≡ n → is_at x y r ≡ true
+same x y r m n p q e = sym (packed_alike x y r m n p q) ∙ eq-eqb m n e
+
+pub other : (x y : ℕ) (r : Resolution) (m n : ℕ) → (m / 65536 ≡ x) × (m % 65536 ≡ y) → (n / 65536 ≡ r.x) × (n % 65536 ≡ r.y) → (m ≡ n → ⊥)
+    → is_at x y r ≡ false
+other x y r m n p q d = sym (packed_alike x y r m n p q) ∙ ne_eqb m n d
+
+-- the pairs of these resolutions
+unfoldable pub entries : List Resolution → List (ℕ × ℕ)
+entries = map (λ r. (r.x, r.y))
+
+-- the resolution at a place
+abbrev pub entry : List Resolution → ℕ → Resolution
+entry rs k = get_or rs k (record { x = 0; y = 0 })
+
+last_listed : (x y : ℕ) (rs : List Resolution) (k : ℕ) → k < length rs → is_at x y (entry rs k) ≡ true → listed x y (entries (take (suc k) rs)) ≡ true
+unfolding entries
+last_listed x y [] k h e = absurd (not-suc-le-zero h)
+last_listed x y (r ∷ rs) zero h e = rw e
+last_listed x y (r ∷ rs) (suc k) h e = ap (λ (b : Bool). is_at x y r || b) (last_listed x y rs k (le_of_suc-le-suc h) e) ∙ or-true (is_at x y r)
+
+-- where the listed pairs are those of the first k of these, the last of the k is listed
+pub found : (x y : ℕ) (rs : List Resolution) (k : ℕ) → (k ≤ length rs) × (listed x y pairs ≡ listed x y (entries (take k rs))) → 0 < k
+    → is_at x y (entry rs (k - 1)) ≡ true → listed x y pairs ≡ true
+found x y rs k l h e =
+    let s : k ≡ suc (k - 1) = omega (arith, h) in
+    l.1 ∙ ap (λ (n : ℕ). listed x y (entries (take n rs))) s ∙ last_listed x y rs (k - 1) (omega (arith, h, l.0)) e

@@ -1,8 +1,11 @@
 -- Laws of a command with its values.
 use Prim.Native.Nat.{ℕ}
-use mathlib.Core.Path.{◌≡◌, refl, ◌∙◌}
+use mathlib.Core.Path.{◌≡◌, refl, subst, ◌∙◌}
 use mathlib.Core.List.{List}
 use lib.ListN.{length, get_or}
+use denote.Enum.Declared.{tag_of}
+use Rattle.command.specs.contracts.table.Command.{the_type as command-type}
+use Rattle.command.specs.contracts.value.Value.{the_type as value-type}
 use Rattle.command.specs.Table.{layout}
 use Rattle.command.specs.Settings.{values_of}
 use Rattle.command.specs.declared.settings.Settings.{Settings}
@@ -37,3 +40,9 @@ pub data_from : (c : Command) (s : Settings) → data_in (value_from c (values_o
 unfolding data_in data_of
 data_from c s =
     each (λ c. data_in (value_from c (values_of c s)) ≡ data_of c s) (refl, refl, refl, refl, refl, refl, refl, refl, refl) c
+
+-- a match on a value goes by its command
+pub tag_value : (v : Value) → tag_of value-type v ≡ tag_of command-type (command_in v)
+tag_value v =
+    subst (λ (w : Value). tag_of value-type w ≡ tag_of command-type (command_in w)) (value_from_lem v)
+    (each (λ c. tag_of value-type (value_from c (values_in v)) ≡ tag_of command-type (command_in (value_from c (values_in v)))) (refl, refl, refl, refl, refl, refl, refl, refl, refl) (command_in v))

@@ -17,11 +17,17 @@ use Rattle.dlpc200.specs.declared.states.States.{States}
 use Rattle.std.specs.Prelude.{Option, None, Some, Result, Ok, Err}
 use Rattle.dlpc200.specs.Playing.{judged, answer_to}
 
--- the bytes of a packet, stored piece after piece at the start of a buffer, the last of them being its checksum
-pub stored : (out : List ℕ) (kind : ℕ) (d : List ℕ) {s : ℕ} → length d < 256 → length d + 7 ≤ length out → s ≡ (length d + sum d) % 256
+-- the bytes of a packet, stored at the start of a buffer, the last of them being its checksum
+pub stored : (out : List ℕ) (kind : ℕ) (d : List ℕ) {s : ℕ} → length (front kind d ++ (s ∷ [])) ≤ length out → s ≡ checksum (front kind d)
+    → sets out 0 (front kind d ++ (s ∷ [])) ≡ written (packet_of kind d) out
+unfolding written packet_of
+stored out kind d {s} l e = sets_front (front kind d ++ (s ∷ [])) out l ∙ ap (λ (x : ℕ). (front kind d ++ (x ∷ [])) ++ drop (length (front kind d ++ (x ∷ []))) out) e
+
+-- those of a packet of fewer than 256 bytes of data, stored piece after piece
+pub stored_pieces : (out : List ℕ) (kind : ℕ) (d : List ℕ) {s : ℕ} → length d < 256 → length d + 7 ≤ length out → s ≡ (length d + sum d) % 256
     → set (sets (sets out 0 (kind ∷ 0xAA ∷ 0x00 ∷ 0x00 ∷ length d ∷ 0x00 ∷ [])) 6 d) (6 + length d) s ≡ written (packet_of kind d) out
-unfolding written packet_of checksum bytes_of sum
-stored out kind d {s} h l e =
+unfolding checksum bytes_of sum
+stored_pieces out kind d {s} h l e =
     let b : List ℕ = kind ∷ 0xAA ∷ 0x00 ∷ 0x00 ∷ length d ∷ 0x00 ∷ [] in
     let joined : set (sets (sets out 0 b) 6 d) (6 + length d) s ≡ sets out 0 ((b ++ d) ++ (s ∷ [])) =
     let place : 0 + length (b ++ d) ≡ 6 + length d = omega (arith, length-append b d) in
@@ -29,10 +35,8 @@ stored out kind d {s} h l e =
     let head : b ++ d ≡ front kind d =
     let low : length d % 256 ≡ length d = omega arith in let high : length d / 256 % 256 ≡ 0 = omega arith in rw (low, high) in
     let last : s ≡ checksum (front kind d) = omega (arith, e) in
-    let whole : (b ++ d) ++ (s ∷ []) ≡ packet_of kind d = ap (λ (x : List ℕ). x ++ (s ∷ [])) head ∙ ap (λ (x : ℕ). front kind d ++ (x ∷ [])) last in
-    joined
-    ∙ sets_front ((b ++ d) ++ (s ∷ [])) out (omega (arith, length-append (b ++ d) (s ∷ []), length-append b d))
-    ∙ ap (λ (p : List ℕ). p ++ drop (length p) out) whole
+    let room : length (front kind d ++ (s ∷ [])) ≤ length out = omega (arith, l, length-append (front kind d) (s ∷ []), ap length head, length-append b d) in
+    joined ∙ ap (λ (x : List ℕ). sets out 0 (x ++ (s ∷ []))) head ∙ stored out kind d room last
 
 pub length_packet : (kind : ℕ) (d : List ℕ) → length (packet_of kind d) ≡ 7 + length d
 unfolding packet_of bytes_of

@@ -1,9 +1,16 @@
 -- The count of error bits is the number of faults that hold.
-use Rattle.std.proofs.Common.{◌≡◌, ◌+◌, Bool, true, false, refl, ap₂}
-use lib.Bits.{bit_and}
-use lib.Count.{ones_in, ones}
+use Rattle.std.proofs.Common.{◌≡◌, ℕ, ◌+◌, ◌^◌, ◌<◌, ◌≤◌, Bool, true, false, refl, ap₂, arith}
+use lib.Bits.{bit_and, and_le_l}
+use lib.Count.{ones_in, ones, ones-le}
 use Rattle.dlpc200.specs.Status.{bit, data0, data1, fault_bits, faults_held}
 use Rattle.dlpc200.specs.declared.status.Faults.{Faults}
+
+-- two bytes have at most sixteen ones, the first through any mask
+pub count_fits : (a m b : ℕ) → a < 256 → b < 256 → ones (bit_and a m) + ones b < 2 ^ 32
+count_fits a m b h l =
+    let k : bit_and a m ≤ a = and_le_l a m in
+    let n : bit_and a m < 2 ^ 8 = omega arith in
+    omega (arith, ones-le 8 (bit_and a m) n, ones-le 8 b l)
 
 -- the ones of each byte, case by case
 

@@ -1,5 +1,5 @@
 -- Runs of stores, and sums of bytes.
-use Rattle.std.proofs.Common.{◌≡◌, ℕ, suc, ◌+◌, ◌-◌, ◌%◌, ◌<◌, ◌≤◌, min, List, [], ◌∷◌, ◌++◌, length, get_or, take, drop, set, sym, refl, ap, ◌∙◌, append_assoc, append-nil, add-zero, zero-add, arith, take-append-drop, drop_of_length-le, length-take-le, get_or-take}
+use Rattle.std.proofs.Common.{◌≡◌, ℕ, suc, ◌+◌, ◌-◌, ◌%◌, ◌<◌, ◌≤◌, min, List, [], ◌∷◌, ◌++◌, length, get_or, take, drop, set, sym, refl, ap, ◌∙◌, append_assoc, append-nil, add-zero, zero-add, add-one, arith, take-append-drop, drop_of_length-le, length-take-le, drop-cons, get_or-take}
 use Rattle.std.specs.List.{fold}
 use lib.ListN.{get_or-append}
 use lib.Seq.{sets, sets-eq, length-sets, set_out}
@@ -45,6 +45,19 @@ pub sum_append : (a b : List ℕ) → sum (a ++ b) ≡ sum a + sum b
 unfolding sum
 sum_append [] b = sym (zero-add (sum b))
 sum_append (x ∷ a) b = let i = sum_append a b in omega arith
+
+-- one store of a run
+pub sets_more : (l xs : List ℕ) (at i : ℕ) → i < length xs
+    → sets l (at + i) (drop i xs) ≡ sets (set l (at + i) (get_or xs i 0)) (at + (i + 1)) (drop (i + 1) xs)
+sets_more l xs at i h =
+    let e : suc (at + i) ≡ at + suc i = omega arith in
+    rw (drop-cons xs i 0 h, add-one i, ← e)
+
+-- one byte of a running sum
+pub sum_more : (xs : List ℕ) (s i : ℕ) → i < length xs
+    → ((s + get_or xs i 0) % 256 + sum (drop (i + 1) xs)) % 256 ≡ (s + sum (drop i xs)) % 256
+unfolding sum
+sum_more xs s i h = rw (drop-cons xs i 0 h, add-one i) (omega arith)
 
 -- a running sum, byte by byte in a byte
 pub fold_sum : (n : ℕ) (b : List ℕ) → n < 256 → fold (λ s x. (s + x) % 256) n b ≡ (n + sum b) % 256

@@ -21,6 +21,11 @@ pub bytes_at : (b : List ℕ) → ((i : ℕ) → get_or b i 0 < 256) → Bytes b
 bytes_at [] h = tt
 bytes_at (x ∷ b) h = (h 0, bytes_at b (λ i. h (suc i)))
 
+pub byte_get : (b : List ℕ) (i : ℕ) → Bytes b → get_or b i 0 < 256
+byte_get [] i h = omega arith
+byte_get (x ∷ b) zero h = h.0
+byte_get (x ∷ b) (suc i) h = byte_get b i h.1
+
 pub value_bytes : (w v : ℕ) → v < 256 ^ w → value_of (bytes_of w v) ≡ v
 unfolding value_of bytes_of
 value_bytes zero v h = omega arith

@@ -12,7 +12,7 @@ use Rattle.std.specs.Prelude.{None, Some}
 use Rattle.std.proofs.lemmas.Bool.{cond_both, and_from}
 use Rattle.packet.specs.declared.stream.WholePacket.{WholePacket}
 use Rattle.packet.proofs.Cases.{bool_cases, true_and_right}
-use Rattle.packet.proofs.number.Laws.{bytes_take, bytes_drop}
+use Rattle.packet.proofs.number.Laws.{bytes_take, bytes_drop, byte_get}
 
 -- p is one whole packet
 pub record IsPacket (p : List ℕ) : Type 0 where
@@ -264,6 +264,11 @@ right_front b h =
 pub payload_length_lem : (p : List ℕ) → size p ≡ length p → length (payload p) ≡ payload_length p
 unfolding payload size
 payload_length_lem p e = length-take-le (payload_length p) (drop 6 p) (simp length-drop (omega (arith, e)))
+
+-- "A packet is 7 to 65,542 bytes"
+pub size_most : (b : List ℕ) → Bytes b → size b ≤ 65542
+unfolding size
+size_most b h = omega (arith, byte_get b 4 h, byte_get b 5 h)
 
 -- The packet at the front of some bytes, n being what its length field says.
 module _ (b : List ℕ) where

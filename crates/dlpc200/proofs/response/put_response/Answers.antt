@@ -3,7 +3,7 @@ use Rattle.std.proofs.Common.{◌≡◌, ◌+◌, ◌%◌, length, sym, ◌∙�
 use Rattle.std.specs.List.{fold}
 use Rattle.std.proofs.iter.runs.Made.{chains}
 use Rattle.packet.proofs.BytesLaws.{fold_sum}
-use Rattle.dlpc200.proofs.response.Laws.{stored, length_packet}
+use Rattle.dlpc200.proofs.response.Laws.{stored_pieces, length_packet}
 use Rattle.dlpc200.proofs.response.put_response.Goals as goal
 
 pub returns : goal.returns
@@ -13,5 +13,5 @@ returns c =
     let s : c.fold-sum.result ≡ fold (λ s x. (s + x) % 256) n a.payload.now = search (rules, chains) in (
       sym (length_packet a.cmd1 a.payload.now),
       rw (c.store-2.ensures, c.store.ensures)
-          (stored a.out.now a.cmd1 a.payload.now c.requires.few c.requires.room (s ∙ fold_sum n a.payload.now c.requires.few)),
+          (stored_pieces a.out.now a.cmd1 a.payload.now c.requires.few c.requires.room (s ∙ fold_sum n a.payload.now c.requires.few)),
     )
