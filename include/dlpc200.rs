@@ -112,9 +112,16 @@ const _: () = {
 #[derive(Clone, Copy, PartialEq, Eq, Debug)]
 pub enum Refusal {
     /// 1: the output is shorter than 64 bytes.
-    ShortOutput,
+    ShortOutput = 1,
     /// 3: the device is out of rule.
-    OutOfRule,
+    OutOfRule = 3,
+}
+
+impl Refusal {
+    /// The number that `dlpc200_receive` answers.
+    pub fn number(self) -> u32 {
+        self as u32
+    }
 }
 
 /// What a call answers.
@@ -154,8 +161,8 @@ impl Device {
             (0, 0) => Ok(Answer::Waiting { taken: taken as usize }),
             (0, _) => Ok(Answer::Answered { taken: taken as usize, length: size as usize }),
             (1, _) => Err(Refusal::ShortOutput),
-            (3, _) => Err(Refusal::OutOfRule),
-            _ => unreachable!("no call refuses with {refusal}"),
+            // The library refuses with 1 and 3 alone.
+            _ => Err(Refusal::OutOfRule),
         }
     }
 }

@@ -117,6 +117,9 @@ fn call(m: &mut Model, input: &[u8], room: usize, fill: u8, tally: &mut Tally) -
     let mut out = vec![fill; room];
     let got = lent.receive(input, &mut out);
     assert_eq!((lent, got), (real(m), told(&answer)), "from {before:?} with {input:02X?}");
+    if let Answer::Refused(number) = answer {
+        assert_eq!(got.map_err(dlpc200::Refusal::number), Err(number), "the number of a refusal");
+    }
     assert_eq!(out, wanted, "from {before:?} with {input:02X?}");
 
     let mut lent = before;
