@@ -1,6 +1,8 @@
 // Refusal 18 in words, on standard error: which packet of the shipping record it is about, and what that
-// packet draws from the head. What is proved is that this is safe and ends; no contract is about the
-// words.
+// packet draws from the head. What is proved is that this is safe and ends, and where the shipping packets
+// stand; no contract is about the words.
+ghost use Rattle.std.specs.Prelude.{◌≡◌, ◌≤◌, ◌+◌, IfSome, length, take, drop};
+
 use command::{Controller, OUTPUT};
 use packet::{FRAME, Progress};
 use report::{HEADER, SHIPPING};
@@ -44,7 +46,10 @@ fn number(rt: &impl Eprint, words: &str, n: usize) {
 }
 
 // The body of the first record of kind 4. Where the records end before one, there is none.
-fn shipping_of(r: &[u8]) -> Option<Shipping<'_>> {
+fn shipping_of(r: &[u8]) -> Option<Shipping<'_>>
+    ensures within { IfSome result (λ s. s.place + length s.packets.now ≤ length r.now) }
+    ensures at_place { IfSome result (λ s. s.packets.now ≡ take (length s.packets.now) (drop s.place r.now)) }
+{
     let mut rest = r;
     while let Some((header, body)) = rest.split_first_chunk::<HEADER>() {
         let [low, high, kind_low, kind_high] = *header;

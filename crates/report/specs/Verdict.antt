@@ -1,6 +1,7 @@
 -- The answer to a report, as document 01's verdict: the trial named with its score and end settings, or a refusal's number and place.
 use Rattle.std.specs.Prelude.{ℕ, Result, Ok, Err}
 use Rattle.report.specs.Report.{Verdict, Accepted, Refused}
+use Rattle.report.specs.declared.line.Told.{Told}
 use Rattle.report.specs.declared.refusal.Reason.{Reason}
 use Rattle.report.specs.declared.refusal.Reason.TheVariants.{TooLong, RecordCutShort, OtherKindDue, WrongBodyLength, WrongVersion, NoTrials, NoSuchTrial, NotTheBest, ShippingRefused, OtherSettings, BytesAfterEnd}
 use Rattle.report.specs.declared.refusal.Refusal.{Refusal}
@@ -24,3 +25,8 @@ number_of BytesAfterEnd = 20
 abbrev pub verdict_in : Result Yes Refusal → Verdict
 verdict_in (Ok a) = Accepted a.trial a.score a.settings
 verdict_in (Err e) = Refused (number_of e.reason) e.place
+
+-- the same of an answer whose refusal has any number
+abbrev pub verdict_told : Result Yes Told → Verdict
+verdict_told (Ok a) = verdict_in (Ok a)
+verdict_told (Err e) = Refused e.number e.place

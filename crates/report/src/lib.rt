@@ -6,7 +6,8 @@
 //   trials   kind 2: each trial played, and the first of the lowest-scored
 //   end      kinds 3 and 4: the winner, and nothing after the shipping packets
 //   verdict  the yes or the no: `check`
-//   line     that answer as the checking program's line: `write_line`, and `write_refusal` with any number
+//   line     an answer as the checking program's line: `write_line`, of that one or of one whose refusal has
+//            any number (`Told`), and `write_refusal`, of a refusal alone
 #![tactic(auto)]
 
 mod end;
@@ -18,7 +19,7 @@ mod trials;
 mod verdict;
 
 pub use head::LONGEST;
-pub use line::{LINE, write_line, write_refusal};
+pub use line::{LINE, Tells, Told, write_line, write_refusal};
 pub use record::{HEADER, SHIPPING};
 pub use refusal::{Reason, Refusal};
 pub use verdict::{Accepted, check};

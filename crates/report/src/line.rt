@@ -1,11 +1,12 @@
 // The line of the checking program: verdict, then either trial number and score, or refusal number
 // and place, in decimal.
-ghost use Rattle.std.specs.Prelude.{◌≡◌, ◌++◌, ◌+◌, ◌≤◌, length};
+ghost use Rattle.std.specs.Prelude.{◌≡◌, ◌++◌, ◌+◌, ◌≤◌, length, Result, Ok, Err, refl};
 ghost use Rattle.std.proofs.lemmas.List.Edits.{sets};
 ghost use Rattle.packet.specs.Writer.{written};
 ghost use Rattle.report.specs.Line.{decimal, sentence, line_of};
-ghost use Rattle.report.specs.Report.{Refused};
-ghost use Rattle.report.specs.Verdict.{verdict_in};
+ghost use Rattle.report.specs.Report.{Verdict, Refused};
+ghost use Rattle.report.specs.Verdict.{verdict_in, verdict_told};
+ghost use Rattle.report.specs.declared.verdict.Accepted.{Accepted};
 
 use crate::refusal::Refusal;
 use crate::verdict::Accepted;
@@ -15,6 +16,48 @@ pub const LINE: usize = 64;
 
 // The most digits that a number has.
 const DIGITS: usize = 20;
+
+// A refusal as a line tells it, whatever number it is.
+#[derive(Clone, Copy, PartialEq, Eq)]
+pub struct Told {
+    pub number: u8,
+    pub place: usize,
+}
+
+// A refusal that a line can tell.
+pub trait Tells: Sized {
+    // The verdict that an answer with such a refusal says.
+    ghost verdict: { Result Accepted Self → Verdict };
+
+    fn told(self) -> Told
+        ensures { verdict (Err self) ≡ Refused result.number result.place };
+
+    // A yes says the same, whatever the refusals are.
+    ghost accepts: { (yes : Accepted) → verdict (Ok yes) ≡ verdict_in (Ok yes) };
+}
+
+impl Tells for Refusal {
+    ghost verdict = { verdict_in };
+
+    ghost accepts = { λ _. refl };
+
+    fn told(self) -> Told {
+        Told {
+            number: self.reason.number(),
+            place: self.place,
+        }
+    }
+}
+
+impl Tells for Told {
+    ghost verdict = { verdict_told };
+
+    ghost accepts = { λ _. refl };
+
+    fn told(self) -> Self {
+        self
+    }
+}
 
 // The digits of a number, put at the end of an array. Not by `write!`: what that writes is promised
 // only where it answers `Ok`, and no contract says that it does.
@@ -71,11 +114,14 @@ pub fn write_refusal(out: &mut [u8; LINE], number: u8, place: usize) -> usize
 }
 
 // Writes the line of an answer to the start of out, and says how long it is. The rest of out stays.
-pub fn write_line(out: &mut [u8; LINE], answer: Result<Accepted, Refusal>) -> usize
-    ensures { (result ≡ length (line_of (verdict_in answer))) × (out.new ≡ written (line_of (verdict_in answer)) out.old) }
+pub fn write_line<R: Tells>(out: &mut [u8; LINE], answer: Result<Accepted, R>) -> usize
+    ensures { (result ≡ length (line_of (R.verdict answer))) × (out.new ≡ written (line_of (R.verdict answer)) out.old) }
 {
     match answer {
         Ok(yes) => put_sentence(out, b"accepted trial ", yes.trial, b" score ", yes.score),
-        Err(no) => write_refusal(out, no.reason.number(), no.place),
+        Err(no) => {
+            let Told { number, place } = no.told();
+            write_refusal(out, number, place)
+        }
     }
 }

@@ -25,7 +25,7 @@ module _ (r : List ℕ) (at n best : ℕ) where
   End ts = read_end n (record { list = ts; at = at; left = drop at r })
 
   -- a refusal of the reading
-  end_no : {x p : ℕ} → ((ts : List Trial) → End ts ≡ Bad x p) → (ts : List Trial) → named_at r at n best ts ≡ Bad x p
+  pub end_no : {x p : ℕ} → ((ts : List Trial) → End ts ≡ Bad x p) → (ts : List Trial) → named_at r at n best ts ≡ Bad x p
   unfolding named_at
   end_no h ts = stop (End ts) _ (h ts)
 

@@ -4,7 +4,7 @@ use Rattle.report.proofs.line.write_line.Goals as goal
 
 pub returns-in-Ok : goal.returns-in-Ok
 unfolding line_of text_of
-returns-in-Ok c = rw c.in-Ok.is c.put_sentence.ensures
+returns-in-Ok g c = rw (c.in-Ok.is, g.met.R.Tells.accepts c.in-Ok.yes) c.put_sentence.ensures
 
 pub returns-in-Err : goal.returns-in-Err
-returns-in-Err c = rw (c.in-Err.is, ← c.number.ensures) c.write_refusal.ensures
+returns-in-Err g c = rw (c.in-Err.is, c.told-number.ensures) c.write_refusal.ensures
