@@ -120,6 +120,6 @@ pub(crate) fn judge_bytes(
     requires sum { right ≡ right_sum p.now }
     ensures { result ≡ judge_of mode (transfer_in t buffer.now) (arrived p.now) }
 {
-    let header = *p.first_chunk::<HEADER>().unwrap();
+    let header = [p[0], p[1], p[2], p[3], p[4], p[5]];
     judge(mode, t, header, right, buffer, &p[HEADER..p.len() - 1])
 }

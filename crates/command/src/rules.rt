@@ -218,15 +218,19 @@ fn packed(x: u16, y: u16) -> u32
     x as u32 * 65536 + y as u32
 }
 
-// X × Y is an entry of Table 10. The factory's stands last, and is tried first.
+// X × Y is an entry of Table 10. The factory's stands last, and is tried first. By index, as in packet's bytes.rt.
 fn supported(x: u16, y: u16) -> bool
     ensures { result ≡ listed x y pairs }
 {
     let wanted = packed(x, y);
-    SUPPORTED_RESOLUTIONS
-        .iter()
-        .rev()
-        .any(|entry| wanted == packed(entry.x, entry.y))
+    let table = SUPPORTED_RESOLUTIONS;
+    for k in (0..table.len()).rev() {
+        let entry = table[k];
+        if wanted == packed(entry.x, entry.y) {
+            return true;
+        }
+    }
+    false
 }
 
 // 3.8 Video Mode Setting (02 01), Table 11.

@@ -18,8 +18,11 @@ fn put_response(out: &mut [u8], cmd1: u8, payload: &[u8]) -> usize
     ensures { (result ≡ length (packet_of cmd1 payload.now)) × (out.new ≡ written (packet_of cmd1 payload.now) out.old) }
 {
     let n = payload.len() as u8;
-    // From the length on, where packet's sum begins with the type: a line each.
-    let sum = payload.iter().fold(n, |sum, byte| sum.wrapping_add(*byte));
+    // From the length on, where packet's sum begins with the type: a loop each, by index as there.
+    let mut sum = n;
+    for i in 0..payload.len() {
+        sum = sum.wrapping_add(payload[i]);
+    }
     packet::store(out, 0, &[cmd1, EXTENDED, 0x00, ONLY, n, 0x00]);
     packet::store(out, HEADER, payload);
     out[HEADER + payload.len()] = sum;

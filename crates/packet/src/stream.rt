@@ -5,7 +5,7 @@ ghost use Rattle.packet.specs.Stream.{next_in};
 
 use crate::bytes::sum_with;
 use crate::number::word;
-use crate::packet::{FRAME, HEADER};
+use crate::packet::FRAME;
 
 // A whole packet that stands at a place of a slice.
 #[derive(Clone, Copy)]
@@ -30,8 +30,10 @@ pub fn next_packet(b: &[u8], at: usize) -> Option<WholePacket>
     ensures { result ≡ next_in (drop at b.now) }
 {
     let left = b.get(at..)?;
-    let header = left.first_chunk::<HEADER>()?;
-    let size = FRAME + word(header[4], header[5]);
+    if left.len() < FRAME {
+        return None;
+    }
+    let size = FRAME + word(left[4], left[5]);
     let packet = left.get(..size)?;
     Some(WholePacket {
         size,
