@@ -24,7 +24,8 @@ fn told_byte(wrong: Option<u8>) -> u64
     wrong.map_or(NO_WRONG_BYTE, u64::from)
 }
 
-// Takes bytes until the input ends or one packet is complete. The controller is changed where it stands.
+// Takes bytes until the input ends or one packet is complete. The controller is changed where it stands, its
+// settings only where a packet was complete.
 pub fn imjarlet_receive(
     c: &mut Controller,
     input: &[u8],

@@ -20,7 +20,8 @@ pub extern "C" fn imjarlet_reset(c: &mut Controller) -> u32
     imjarlet::imjarlet_reset(c)
 }
 
-// Takes bytes until the input ends or one packet is complete. The controller is changed where it stands.
+// Takes bytes until the input ends or one packet is complete. The controller is changed where it stands, its
+// settings only where a packet was complete.
 #[unsafe(no_mangle)]
 pub extern "C" fn imjarlet_receive(
     c: &mut Controller,
