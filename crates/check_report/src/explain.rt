@@ -155,7 +155,8 @@ fn tell_unfinished(rt: &impl Eprint, bytes: &[u8]) {
     }
     let size = FRAME + packet::word(bytes[4], bytes[5]);
     number(rt, " of its ", size);
-    number(rt, " bytes and lacks ", size.saturating_sub(bytes.len()));
+    text(rt, " bytes");
+    number(rt, " and lacks ", size.saturating_sub(bytes.len()));
 }
 
 fn tell_drawn(rt: &impl Eprint, drawn: Drawn, response: &[u8; OUTPUT], bytes: &[u8]) {

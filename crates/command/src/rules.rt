@@ -223,7 +223,7 @@ fn supported(x: u16, y: u16) -> bool
     ensures { result ≡ listed x y pairs }
 {
     let wanted = packed(x, y);
-    let table = SUPPORTED_RESOLUTIONS;
+    let table = &SUPPORTED_RESOLUTIONS;
     for k in (0..table.len()).rev() {
         let entry = table[k];
         if wanted == packed(entry.x, entry.y) {
